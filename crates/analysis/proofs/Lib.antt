@@ -1,0 +1,4 @@
+pub mod DemandLaws
+pub mod Least
+pub mod ResponseLaws
+pub mod Premised

@@ -1,0 +1,4 @@
+pub mod Task
+pub mod Faults
+pub mod List
+pub mod Set
