@@ -1,3 +1,4 @@
 pub mod SetLaws
+pub mod SetSizes
 pub mod Adding
 pub mod Reading

@@ -86,3 +86,18 @@ weight-is s k h e = one-shl k 32 (bit-within s k h e)
 
 pub weight-le : (s k : ℕ) → bit s k ≡ 1 → 2 ^ k ≤ s
 weight-le s k e = omega (arith, bit-weight s k, ap (λ b. b * 2 ^ k) e)
+
+pub without-le : (s k : ℕ) → without s k ≤ s
+unfolding without
+without-le s k = omega arith
+
+-- the first n tasks are in the set of the first n
+first-bits : (n k : ℕ) → k < n → bit (2 ^ n - 1) k ≡ 1
+first-bits zero k h = absurd (omega arith)
+first-bits (suc n) zero h = omega (arith, pow-suc 2 n, pow-pos n)
+first-bits (suc n) (suc k) h =
+    let half : (2 ^ suc n - 1) / 2 ≡ 2 ^ n - 1 = omega (arith, pow-suc 2 n, pow-pos n) in
+    ap (λ s. bit s k) half ∙ first-bits n k (omega arith)
+
+pub bit-first : (n k : ℕ) → n ≤ 32 → k < n → bit (firstSet n) k ≡ 1
+bit-first n k h l = ap (λ s. bit s k) (first-is n h) ∙ first-bits n k l
