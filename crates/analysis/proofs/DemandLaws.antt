@@ -64,6 +64,11 @@ pub demand-within : (l : TaskList) (a S i t : ℕ) → Within a S → demand l a
 unfolding demand
 demand-within l a S i t h = omega (arith, load-within l (listed l) a S t h)
 
+-- the demand is never 0, for the task asks for a tick itself
+pub demand-some : (l : TaskList) (S i t : ℕ) → 1 ≤ demand l S i t
+unfolding demand
+demand-some l S i t = omega (arith, taskAt l i .limits)
+
 -- ---- adding it up
 
 pub load-more : (l : TaskList) (xs : List Task) (k S t : ℕ) (x : Task) → k < length xs → x ≡ getD xs k x → load l (drop k xs) S t ≡ S % 2 * (charge l x * ceil t (x .period)) + load l (drop (k + 1) xs) (S / 2) t

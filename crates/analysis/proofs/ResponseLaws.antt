@@ -14,7 +14,7 @@ use Rattle.tasks.specs.Set.{Within}
 use Rattle.tasks.specs.declared.list.TaskList.{TaskList}
 use Rattle.analysis.specs.Demand.{deadline, demand}
 use Rattle.analysis.specs.Response.{Response, Smallest, response}
-use Rattle.analysis.proofs.DemandLaws.{demand-mono, demand-within}
+use Rattle.analysis.proofs.DemandLaws.{demand-mono, demand-within, demand-some}
 use Rattle.analysis.proofs.Least.{least-none, least-all, least-is, least-exists, least-some}
 
 pub response-is : (l : TaskList) (S i r : ℕ) → Response l S i r → response l S i ≡ Some r
@@ -42,13 +42,20 @@ response-some l S i r e =
       smallest = λ t a b. leb-false _ _ (f .first t a b);
     }
 
+-- where the demand is met in b ticks, b at most the deadline, there is a response, and it is at most b
+pub response-exists : (l : TaskList) (S i b : ℕ) → b ≤ deadline l (taskAt l i) → demand l S i b ≤ b → (r : ℕ) × Response l S i r × (r ≤ b)
+unfolding response
+response-exists l S i b h met =
+    let some = least-exists (λ t. leb (demand l S i t) t) 1 (deadline l (taskAt l i)) b (omega (arith, demand-some l S i b)) (omega arith) (le-leb _ _ met) in
+    (some .0, response-some l S i (some .0) (some .1), some .2)
+
 -- below fewer tasks there is a response too, and it is no greater
 pub response-fewer : (l : TaskList) (a S i b : ℕ) → Within a S → response l S i ≡ Some b → (c : ℕ) × (response l a i ≡ Some c) × (c ≤ b)
 unfolding response
 response-fewer l a S i b w e =
     let h = response-some l S i b e in
-    least-exists (λ t. leb (demand l a i t) t) 1 (deadline l (taskAt l i)) b (h .positive) (omega (arith, h .in-time))
-    (le-leb _ _ (omega (arith, demand-within l a S i b w, h .met)))
+    let r = response-exists l a i b (h .in-time) (omega (arith, demand-within l a S i b w, h .met)) in
+    (r .0, response-is l a i (r .0) (r .1), r .2)
 
 -- raised to the demand, nothing that meets its demand is passed over
 pub raised : (l : TaskList) (S i t : ℕ) → ((s : ℕ) → 1 ≤ s → s < t → s < demand l S i s) → (s : ℕ) → 1 ≤ s → s < demand l S i t → s < demand l S i s

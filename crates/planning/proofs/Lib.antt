@@ -1,3 +1,6 @@
 pub mod Searching
 pub mod Placing
 pub mod GoingOn
+pub mod Above
+pub mod Judging
+pub mod Finishing

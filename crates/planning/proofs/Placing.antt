@@ -17,7 +17,7 @@ use Rattle.tasks.specs.List.{listed, taskAt}
 use Rattle.tasks.specs.Set.{bit, without, firstSet}
 use Rattle.tasks.specs.declared.list.TaskList.{TaskList}
 use Rattle.tasks.proofs.Reading.{listed-few}
-use Rattle.tasks.proofs.SetLaws.{bit-le, bits-below, below-bits, first-is, bit-without-same, bit-without-other, bit-first, without-le}
+use Rattle.tasks.proofs.SetLaws.{one-or-none, bits-below, first-is, bit-without-same, bit-without-other, bit-first, without-le}
 use Rattle.tasks.proofs.SetSizes.{ones-without}
 use Rattle.analysis.specs.Demand.{deadline}
 use Rattle.planning.specs.Drafts.{rankIn, heldIn, WellPlaced, Drafted, FewAsked}
@@ -25,9 +25,6 @@ use Rattle.planning.specs.Rounds.{holdBy, holdOf, counted, placedIn, begun}
 use Rattle.planning.specs.declared.rounds.Candidate.{Candidate}
 use Rattle.planning.specs.declared.rounds.Draft.{Draft}
 use Rattle.planning.proofs.Searching.{Chosen, premised-without}
-
-one-or-none : (U k : ℕ) → (bit U k ≡ 1) ⊎ (bit U k ≡ 0)
-one-or-none U k = ⊎-elim inl (λ n. inr (omega (arith, bit-le U k))) (cases-eq (bit U k) 1)
 
 -- with n unplaced tasks fewer by one, their questions and those of this round are no more than were allowed
 fewer : (n m Q q all : ℕ) → n + 1 ≡ m → q ≤ m → 2 * Q + m * (m + 1) ≤ all → 2 * (Q + q) + n * (n + 1) ≤ all

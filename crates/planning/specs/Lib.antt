@@ -1,2 +1,6 @@
+pub mod Faults
 pub mod Rounds
 pub mod Drafts
+pub mod Orders
+pub mod Plans
+pub mod Planning

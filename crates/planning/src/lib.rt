@@ -2,4 +2,6 @@
 //
 //     let tally = plan_exact(&list, &mut plan)?;
 
+pub mod fault;
+pub mod plan;
 pub mod rounds;

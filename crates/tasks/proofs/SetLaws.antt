@@ -2,7 +2,7 @@
 -- A word halves once for every task below k, so bit k is the remainder of the word shifted down by k; taking the bit's weight out leaves
 -- every other bit as it was. Assumes nothing.
 use mathlib.Core.Path.{_≡_, refl, sym, ap, _∙_}
-use mathlib.Core.Logic.{_≢_, ⊎-elim}
+use mathlib.Core.Logic.{_≢_, _⊎_, inl, inr, ⊎-elim}
 use Prim.Native.Nat.{ℕ, zero, suc, min, _+_, _-_, _*_, _/_, _%_, _^_, _≤_, _<_}
 use native.Mathlib.Nat.{div-one, mul-assoc, pow-suc}
 use native.Mathlib.Numerals.{one-add}
@@ -19,7 +19,15 @@ pub bit-le : (s k : ℕ) → bit s k ≤ 1
 bit-le s zero = omega arith
 bit-le s (suc k) = bit-le (s / 2) k
 
--- a word of 32 bits has no task past 31
+pub one-or-none : (s k : ℕ) → (bit s k ≡ 1) ⊎ (bit s k ≡ 0)
+one-or-none s k = ⊎-elim inl (λ n. inr (omega (arith, bit-le s k))) (cases-eq (bit s k) 1)
+
+-- the word 0 has no task
+pub bit-zero : (k : ℕ) → bit 0 k ≡ 0
+bit-zero zero = refl
+bit-zero (suc k) = bit-zero k
+
+-- a word of n bits has no task from n on
 pub bit-past : (s k n : ℕ) → s < 2 ^ n → n ≤ k → bit s k ≡ 0
 bit-past s zero zero h l = omega arith
 bit-past s zero (suc n) h l = omega arith

@@ -53,7 +53,7 @@ fn is_asked(list: &TaskList, preference: Preference, unplaced: u32, task: usize)
 }
 
 // The answer to a question that is well put.
-fn answer<T: Test>(test: &T, list: &TaskList, set: u32, task: usize) -> Option<u16>
+pub(crate) fn answer<T: Test>(test: &T, list: &TaskList, set: u32, task: usize) -> Option<u16>
     requires { ⌜ Premises (now list) set task ⌝ }
     ensures { λ r. ⌜ r ≡ bound (now (test .entry)) (now (list .entry)) set task ⌝ }
 {
