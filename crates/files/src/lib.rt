@@ -4,5 +4,6 @@
 //     read_list(bytes, &mut list)?;
 
 pub mod fault;
+pub mod list_file;
 pub mod reader;
 pub mod record;
