@@ -1,3 +1,4 @@
 pub mod Heads
 pub mod Decodes
 pub mod Takes
+pub mod Texts

@@ -2,3 +2,5 @@ pub mod Faults
 pub mod Format
 pub mod Reading
 pub mod Decoding
+pub mod Text
+pub mod Printing

@@ -5,5 +5,7 @@
 
 pub mod fault;
 pub mod list_file;
+pub mod print;
 pub mod reader;
 pub mod record;
+mod text;
