@@ -29,7 +29,7 @@ use Rattle.tasks.specs.List.{Row, rows, opened}
 use Rattle.tasks.specs.declared.list.OpenList.{OpenList}
 
 -- what is left to decode: nothing once the end record was read
-abbrev leftOver : Bool → ℕ → List ℕ → ℕ → List Row → Result (List Row) ListFault
+abbrev pub leftOver : Bool → ℕ → List ℕ → ℕ → List Row → Result (List Row) ListFault
 leftOver true n bs at rs = Ok rs
 leftOver false n bs at rs = decodedFrom n bs at rs
 
@@ -38,7 +38,7 @@ taken-on true n bs at rs = refl
 taken-on false n bs at rs = refl
 
 -- one record that is taken
-turn : (n : ℕ) (bs : List ℕ) (at : ℕ) (rs new : List Row) (s : Said) → headFault ListFile at (drop at bs) ≡ None → s ≡ first (drop at bs) → takes (length bs) at rs s ≡ Ok new → decodedFrom (suc n) bs at rs ≡ leftOver (isEnd s) n bs (at + size (drop at bs)) new
+pub turn : (n : ℕ) (bs : List ℕ) (at : ℕ) (rs new : List Row) (s : Said) → headFault ListFile at (drop at bs) ≡ None → s ≡ first (drop at bs) → takes (length bs) at rs s ≡ Ok new → decodedFrom (suc n) bs at rs ≡ leftOver (isEnd s) n bs (at + size (drop at bs)) new
 turn n bs at rs new s sound says taken =
     (λ i. goesOn (sound i) (takes (length bs) at rs (sym says i)) (isEnd (sym says i)) (decodedFrom n bs (at + size (drop at bs))))
     ∙ ap (λ t. goesOn None t (isEnd s) (decodedFrom n bs (at + size (drop at bs)))) taken
@@ -93,7 +93,7 @@ moved-of : (bs : List ℕ) (r new : Reader) (l : OpenList) (k at : ℕ) (s : Sai
 moved-of bs r new l k at s g h = h .moved ∙ ap (λ xs. r .at + size (drop (r .at) xs)) (g .file)
 
 -- a turn that is left can be spent
-spent : (n : ℕ) → 0 < n → (m : ℕ) × (n ≡ suc m)
+pub spent : (n : ℕ) → 0 < n → (m : ℕ) × (n ≡ suc m)
 spent zero h = absurd (omega arith)
 spent (suc m) h = (m, refl)
 

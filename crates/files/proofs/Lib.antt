@@ -2,3 +2,5 @@ pub mod Heads
 pub mod Decodes
 pub mod Takes
 pub mod Texts
+pub mod Laid
+pub mod ReadsBack

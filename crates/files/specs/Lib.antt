@@ -4,3 +4,4 @@ pub mod Reading
 pub mod Decoding
 pub mod Text
 pub mod Printing
+pub mod Layout
