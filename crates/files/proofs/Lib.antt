@@ -1,0 +1,6 @@
+pub mod Heads
+pub mod Decodes
+pub mod Takes
+pub mod Texts
+pub mod Laid
+pub mod ReadsBack

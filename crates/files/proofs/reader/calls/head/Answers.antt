@@ -1,0 +1,25 @@
+use mathlib.Core.Path.{refl, sym, ap, _≡_}
+use Prim.Native.Nat.{_≤_, _-_}
+use borrow.Author.Needs.{needs}
+use native.Mathlib.Omega.{arith}
+use lib.ListN.{length, take, drop, length-drop}
+use Rattle.std.proofs.shelf.Lists.{take-rest}
+use Rattle.std.proofs.shelf.Tests.{eq-eqb, and-from}
+use Rattle.files.proofs.Heads.{no-fault, part-is}
+use Rattle.files.proofs.reader.calls.head.Needs as need
+
+pub returns : need.returns
+returns c =
+    let bs = c .args .bytes .now in
+    let long : 4 ≤ length bs = search needs in
+    let rest = ap length (take-rest bs 4) in (
+      no-fault (c .args .file) (c .args .place) bs (record {
+        long = long;
+        mark = and-from _ _ (eq-eqb _ 0xa7 (c .if-high .left)) (eq-eqb _ 0x5e (c .if-low-ne94 .left));
+        kind = sym (c .if-not-has .ensures tt);
+        fits = sym (c .if-not-length-fits .ensures tt);
+        whole = omega (arith, length-drop 4 bs, c .if-rest-len .left);
+      }),
+      refl,
+      part-is bs _,
+    )

@@ -1,0 +1,45 @@
+-- What a reader of records answers.
+--
+--   left r               the bytes that the reader r has yet to read
+--   Begins r bs at f     the reader r stands at the place `at` of the file bs of kind f, before its end record
+--   Shown old new at s   the reader `old` shows the record s, which begins at the place `at`, and becomes `new`
+--   Nexts old new a      asking `old` for the next record answers a and leaves `new`
+use mathlib.Core.Path.{_≡_}
+use mathlib.Core.Bool.{Bool, true, false}
+use mathlib.Core.List.{List}
+use Prim.Native.Nat.{ℕ, _+_}
+use denote.Ref.{now}
+use lib.ListN.{drop}
+use Rattle.std.specs.Options as options
+use Rattle.std.specs.Results as results
+use Rattle.std.specs.declared.option.Option.{Option}
+use Rattle.std.specs.declared.option.Option.the-variants.{Some, None}
+use Rattle.std.specs.declared.result.Result.{Result}
+use Rattle.files.specs.Format.{Said, view, isEnd, headFault, size, first}
+use Rattle.files.specs.declared.fault.ByteFault.{ByteFault}
+use Rattle.files.specs.declared.reader.Reader.{Reader}
+use Rattle.files.specs.declared.record.FileKind.{FileKind}
+use Rattle.files.specs.declared.record.Record.{Record}
+
+abbrev pub left : Reader → List ℕ
+left r = drop (r .at) (now (r .bytes))
+
+pub record Shown (old new : Reader) (at : ℕ) (s : Said) : Type 0 where
+  pub sound : headFault (old .kind) (old .at) (left old) ≡ None
+  pub place : at ≡ old .at
+  pub says : s ≡ first (left old)
+  pub moved : new .at ≡ old .at + size (left old)
+  pub ends : new .ended ≡ isEnd s
+
+pub record Begins (r : Reader) (bs : List ℕ) (at : ℕ) (f : FileKind) : Type 0 where
+  pub bytes : now (r .bytes) ≡ bs
+  pub place : r .at ≡ at
+  pub kind : r .kind ≡ f
+  pub unended : r .ended ≡ false
+
+pub record Nexts (old new : Reader) (answer : Result (Option (ℕ × Record)) ByteFault) : Type 0 where
+  pub file : (now (new .bytes) ≡ now (old .bytes)) × (new .kind ≡ old .kind)
+  pub answered :
+      results.Cases answer
+      (λ o. options.Cases o ((old .ended ≡ true) × (new .at ≡ old .at) × (new .ended ≡ true)) (λ p. (old .ended ≡ false) × Shown old new (p .0) (view (p .1))))
+      (λ f. (old .ended ≡ false) × (headFault (old .kind) (old .at) (left old) ≡ Some f) × (new .at ≡ old .at) × (new .ended ≡ false))

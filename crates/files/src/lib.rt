@@ -1,0 +1,11 @@
+// The bytes of files: reading a list file, writing one, and the line that a refusal prints.
+//
+//     let mut list = OpenList::new().close();
+//     read_list(bytes, &mut list)?;
+
+pub mod fault;
+pub mod list_file;
+pub mod print;
+pub mod reader;
+pub mod record;
+mod text;

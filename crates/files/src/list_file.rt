@@ -1,0 +1,92 @@
+// Reading a list file.
+ghost use Prim.Native.Nat.{_≤_};
+ghost use Rattle.files.specs.Decoding.{endFault, takes, decoded, Reads};
+ghost use Rattle.files.specs.Format.{view};
+ghost use Rattle.std.specs.Results.{Cases};
+ghost use Rattle.std.specs.declared.option.Option.the-variants.{Some, None};
+ghost use Rattle.std.specs.declared.result.Result.the-variants.{Ok, Err};
+ghost use Rattle.tasks.specs.List.{rows, listed, opened};
+ghost use lib.ListN.{length};
+ghost use mathlib.Core.Path.{_≡_};
+use crate::fault::ByteFault;
+use crate::fault::ListFault;
+use crate::fault::calls::ListFaultFromByte;
+use crate::fault::calls::ListFaultFromTask;
+use crate::reader::Reader;
+use crate::record::FileKind;
+use crate::record::Record;
+use tasks::list::OpenList;
+use tasks::list::TaskList;
+
+// The longest file, in bytes.
+pub const MAX_FILE: usize = 8_192;
+
+// How many bytes the end record takes.
+const END_SIZE: usize = 6;
+
+// Checks an end record at the place `at` that counts so many tasks.
+fn check_end(at: usize, count: u16, tasks: usize, size: usize) -> Result<(), ByteFault>
+    requires { ⌜ at ≤ size ⌝ }
+    ensures { λ r. ⌜ Cases r (λ _. endFault size at tasks count ≡ None) (λ f. endFault size at tasks count ≡ Some f) ⌝ }
+{
+    if usize::from(count) != tasks {
+        return Err(ByteFault::WrongCount(at as u64));
+    }
+    if size - at > END_SIZE {
+        return Err(ByteFault::BytesAfterEnd((at + END_SIZE) as u64));
+    }
+    Ok(())
+}
+
+// Takes the record at the place `at` of a file of `size` bytes, and answers how many tasks there are now.
+fn take_record(
+    list: &mut OpenList,
+    tasks: usize,
+    size: usize,
+    at: usize,
+    record: Record,
+) -> Result<usize, ListFault>
+    requires place { ⌜ at ≤ size ⌝ }
+    requires count { ⌜ tasks ≡ length (opened (now list)) ⌝ }
+    ensures { λ r. ⌜ Cases r (λ k. (takes size at (rows (opened (now (list .entry)))) (view («record» .entry)) ≡ Ok (rows (opened (now (list .exit))))) × (k ≡ length (opened (now (list .exit))))) (λ f. takes size at (rows (opened (now (list .entry)))) (view («record» .entry)) ≡ Err f) ⌝ }
+{
+    match record {
+        Record::Task {
+            preference,
+            cost,
+            period,
+            name,
+        } => Ok(list.add_at(at as u64, name, preference, cost, period)? + 1),
+        Record::Note(_) => Ok(tasks),
+        Record::End(count) => {
+            check_end(at, count, tasks, size)?;
+            Ok(tasks)
+        }
+        Record::Plan { .. } => Err(ListFault::Bytes(ByteFault::WrongKind(at as u64))),
+    }
+}
+
+// The closed list that a list file says.
+fn tasks_in(bytes: &[u8]) -> Result<TaskList, ListFault>
+    ensures { λ r. ⌜ Cases r (λ l. decoded (now (bytes .entry)) ≡ Ok (rows (listed l))) (λ f. decoded (now (bytes .entry)) ≡ Err f) ⌝ }
+{
+    let size = bytes.len();
+    if size > MAX_FILE {
+        return Err(ListFault::Bytes(ByteFault::TooLong(size as u64)));
+    }
+    let mut open = OpenList::new();
+    let mut tasks = 0;
+    let mut reader = Reader::new(bytes, FileKind::List);
+    while let Some((at, record)) = reader.next()? {
+        tasks = take_record(&mut open, tasks, size, at, record)?;
+    }
+    Ok(open.close())
+}
+
+// Reads a list file into the lent list. A refusal leaves that as it was.
+pub fn read_list(bytes: &[u8], place: &mut TaskList) -> Result<(), ListFault>
+    ensures { λ r. ⌜ Reads (now (bytes .entry)) (now (place .entry)) (now (place .exit)) r ⌝ }
+{
+    *place = tasks_in(bytes)?;
+    Ok(())
+}

@@ -1,0 +1,79 @@
+// Making a reader, and asking it for the next record.
+ghost use Prim.Native.Nat.{_^_, _<_};
+ghost use Rattle.files.specs.Format.{headFault, body as bodyOf};
+ghost use Rattle.files.specs.Reading.{Begins, Nexts};
+ghost use Rattle.std.specs.Results.{Cases};
+ghost use Rattle.std.specs.declared.option.Option.the-variants.{Some, None};
+ghost use lib.ListN.{length, getD, drop};
+ghost use mathlib.Core.Path.{_≡_};
+use super::Reader;
+use crate::fault::ByteFault;
+use crate::record::FileKind;
+use crate::record::Record;
+use crate::record::calls::length_fits;
+
+// The bytes from the place `at` on: none where it is past the end.
+fn rest_from(bytes: &[u8], at: usize) -> &[u8]
+    ensures rest { λ r. ⌜ now r ≡ drop at (now (bytes .entry)) ⌝ }
+    ensures size { λ _. ⌜ length (now (bytes .entry)) < 2 ^ 64 ⌝ }
+{
+    if at < bytes.len() { &bytes[at..] } else { &[] }
+}
+
+// Kind and body of the record that begins these bytes, which stand at a place of a file.
+fn head(file: FileKind, place: u64, bytes: &[u8]) -> Result<(u8, &[u8]), ByteFault>
+    ensures { λ r. ⌜ Cases r (λ h. (headFault file place (now (bytes .entry)) ≡ None) × (h .0 ≡ getD (now (bytes .entry)) 2 0) × (now (h .1) ≡ bodyOf (now (bytes .entry)))) (λ f. headFault file place (now (bytes .entry)) ≡ Some f) ⌝ }
+{
+    let [high, low, kind, len, rest @ ..] = bytes else {
+        return Err(ByteFault::CutOff(place));
+    };
+    if *high != 0xa7 || *low != 0x5e {
+        return Err(ByteFault::WrongMark(place));
+    }
+    if !file.has(*kind) {
+        return Err(ByteFault::WrongKind(place));
+    }
+    if !length_fits(*kind, *len) {
+        return Err(ByteFault::WrongLength(place));
+    }
+    let len = *len as usize;
+    if rest.len() < len {
+        return Err(ByteFault::CutOff(place));
+    }
+    Ok((*kind, &rest[0..len]))
+}
+
+impl<'a> Reader<'a> {
+    // A reader at the first byte of a file.
+    pub fn new(bytes: &'a [u8], kind: FileKind) -> Reader<'a>
+        ensures { λ r. ⌜ Begins r (now (bytes .entry)) 0 kind ⌝ }
+    {
+        Reader::starting_at(bytes, 0, kind)
+    }
+
+    // A reader at any byte of a file, where a record is taken to begin.
+    pub fn starting_at(bytes: &'a [u8], at: usize, kind: FileKind) -> Reader<'a>
+        ensures { λ r. ⌜ Begins r (now (bytes .entry)) at kind ⌝ }
+    {
+        Reader {
+            bytes,
+            at,
+            kind,
+            ended: false,
+        }
+    }
+
+    // The next record, with the place where it begins; none after the end record. A refusal leaves the reader as it was.
+    pub fn next(&mut self) -> Result<Option<(usize, Record<'a>)>, ByteFault>
+        ensures { λ r. ⌜ Nexts (now (self .entry)) (now (self .exit)) r ⌝ }
+    {
+        if self.ended {
+            return Ok(None);
+        }
+        let at = self.at;
+        let (kind, body) = head(self.kind, at as u64, rest_from(self.bytes, at))?;
+        self.at = at + 4 + body.len();
+        self.ended = kind == 3;
+        Ok(Some((at, Record::with_body(kind, body))))
+    }
+}
