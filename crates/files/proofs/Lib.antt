@@ -4,3 +4,5 @@ pub mod Takes
 pub mod Texts
 pub mod Laid
 pub mod ReadsBack
+pub mod Reports
+pub mod Verdicts

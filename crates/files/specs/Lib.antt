@@ -5,3 +5,5 @@ pub mod Decoding
 pub mod Text
 pub mod Printing
 pub mod Layout
+pub mod Report
+pub mod Program

@@ -6,6 +6,8 @@
 pub mod fault;
 pub mod list_file;
 pub mod print;
+pub mod program;
 pub mod reader;
 pub mod record;
+pub mod report;
 mod text;
