@@ -45,7 +45,7 @@ row-added k at r h room =
       le-ltb 60000 (r .period) (h .period),
       lt-leb 32 k room,
       le-leb 1 (length (r .name)) (h .named),
-      le-leb (length (r .name)) 16 (h .name)
+      le-leb (length (r .name)) 16 (h .name),
     )
 
 pub end-good : (size at k : ℕ) → size ≡ at + 6 → endFault size at k k ≡ None

@@ -4,3 +4,4 @@ pub mod Takes
 pub mod Texts
 pub mod Laid
 pub mod ReadsBack
+pub mod Encodes

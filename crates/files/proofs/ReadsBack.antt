@@ -24,9 +24,9 @@ use Rattle.tasks.specs.List.{Row, addFault}
 laid-read : (k : ℕ) (b rest : List ℕ) (n : ℕ) (bs : List ℕ) (at : ℕ) (rs new : List Row) (s : Said) → drop at bs ≡ laid k b ++ rest → kindFits ListFile′ k ≡ true → lengthFits k (length b) ≡ true → s ≡ said k b → takes (length bs) at rs s ≡ Ok new → decodedFrom (suc n) bs at rs ≡ leftOver (isEnd s) n bs (at + (4 + length b)) new
 laid-read k b rest n bs at rs new s e kind fits says taken =
     turn n bs at rs new s
-      (ap (format.headFault ListFile′ at) e ∙ head-laid ListFile′ at k b rest kind fits)
-      (says ∙ sym (first-laid k b rest) ∙ ap first (sym e))
-      taken
+    (ap (format.headFault ListFile′ at) e ∙ head-laid ListFile′ at k b rest kind fits)
+    (says ∙ sym (first-laid k b rest) ∙ ap first (sym e))
+    taken
     ∙ ap (λ xs. leftOver (isEnd s) n bs (at + size xs) new) e
 
 -- what follows it
@@ -40,9 +40,9 @@ bytes-left k b rest bs at e = sym (length-drop at bs) ∙ ap length e ∙ omega 
 task-read : (r : Row) (rest : List ℕ) (n : ℕ) (bs : List ℕ) (at : ℕ) (rs : List Row) → drop at bs ≡ taskRecord r ++ rest → KeepsLimits r → length rs < 32 → decodedFrom (suc n) bs at rs ≡ decodedFrom n bs (at + (4 + length (taskBody r))) (rs ++ r ∷ [])
 task-read r rest n bs at rs e h room =
     laid-read 1 (taskBody r) rest n bs at rs (rs ++ r ∷ []) (format.task (r .preference) (r .cost) (r .period) (r .name)) e refl
-      (and-from _ _ (le-leb 6 (length (taskBody r)) (omega (arith, h .named))) (le-leb (length (taskBody r)) 21 (omega (arith, h .name))))
-      (λ i. format.task (r .preference) (sym (two-bytes (r .cost)) i) (sym (two-bytes (r .period)) i) (r .name))
-      (ap (λ o. unlessTask o (rs ++ r ∷ [])) (row-added (length rs) at r h room))
+    (and-from _ _ (le-leb 6 (length (taskBody r)) (omega (arith, h .named))) (le-leb (length (taskBody r)) 21 (omega (arith, h .name))))
+    (λ i. format.task (r .preference) (sym (two-bytes (r .cost)) i) (sym (two-bytes (r .period)) i) (r .name))
+    (ap (λ o. unlessTask o (rs ++ r ∷ [])) (row-added (length rs) at r h room))
 
 note-read : (b rest : List ℕ) (n : ℕ) (bs : List ℕ) (at : ℕ) (rs : List Row) → drop at bs ≡ laid 2 b ++ rest → length b ≤ 255 → decodedFrom (suc n) bs at rs ≡ decodedFrom n bs (at + (4 + length b)) rs
 note-read b rest n bs at rs e h = laid-read 2 b rest n bs at rs rs (format.note b) e refl (le-leb (length b) 255 h) refl refl
@@ -52,8 +52,8 @@ end-read n bs at rs e =
     let here = e ∙ sym (append-nil (endRecord (length rs))) in
     let size-is : length bs ≡ at + 6 = omega (arith, bytes-left 3 (twoBytes (length rs)) [] bs at here) in
     laid-read 3 (twoBytes (length rs)) [] n bs at rs rs (format.end (length rs)) here refl refl
-      (ap (λ k. format.end k) (sym (two-bytes (length rs))))
-      (ap (λ o. unlessBytes o rs) (end-good (length bs) at (length rs) size-is))
+    (ap (λ k. format.end k) (sym (two-bytes (length rs))))
+    (ap (λ o. unlessBytes o rs) (end-good (length bs) at (length rs) size-is))
 
 pub file-read : (is : List Item) (n : ℕ) (bs : List ℕ) (at : ℕ) (rs : List Row) → drop at bs ≡ joined itemBytes is ++ endRecord (length rs + length (itemRows is)) → All Fits is → length rs + length (itemRows is) ≤ 32 → length bs - at ≤ n → decodedFrom n bs at rs ≡ Ok (rs ++ itemRows is)
 file-read [] n bs at rs e fit few enough =
@@ -67,7 +67,7 @@ file-read (task r ∷ is) n bs at rs e fit few enough =
     let m = spent n (omega arith) in
     let more = length-push rs r in
     let next : drop (at + (4 + length (taskBody r))) bs ≡ joined itemBytes is ++ endRecord (length (rs ++ r ∷ []) + length (itemRows is)) =
-      rest-of 1 (taskBody r) rest bs at here ∙ ap (λ k. joined itemBytes is ++ endRecord k) (omega arith) in
+    rest-of 1 (taskBody r) rest bs at here ∙ ap (λ k. joined itemBytes is ++ endRecord k) (omega arith) in
     ap (λ k. decodedFrom k bs at rs) (m .1)
     ∙ task-read r rest (m .0) bs at rs here (fit .0) (omega arith)
     ∙ file-read is (m .0) bs (at + (4 + length (taskBody r))) (rs ++ r ∷ []) next (fit .1) (omega arith) (omega (arith, m .1))
