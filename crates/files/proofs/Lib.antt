@@ -5,3 +5,4 @@ pub mod Texts
 pub mod Laid
 pub mod ReadsBack
 pub mod Encodes
+pub mod LaidOut

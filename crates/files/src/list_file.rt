@@ -2,7 +2,7 @@
 ghost use Prim.Native.Nat.{_+_, _≤_};
 ghost use Rattle.files.specs.Decoding.{endFault, takes, decoded, Reads};
 ghost use Rattle.files.specs.Format.{view};
-ghost use Rattle.files.specs.Layout.{taskRecord, endRecord, encoded};
+ghost use Rattle.files.specs.Layout.{taskRecord, endRecord, encoded, ReadsFiles};
 ghost use Rattle.files.specs.Printing.{Writes};
 ghost use Rattle.files.specs.Text.{written};
 ghost use Rattle.std.specs.Results.{Cases};
@@ -91,7 +91,8 @@ fn tasks_in(bytes: &[u8]) -> Result<TaskList, ListFault>
 
 // Reads a list file into the lent list. A refusal leaves that as it was.
 pub fn read_list(bytes: &[u8], place: &mut TaskList) -> Result<(), ListFault>
-    ensures { λ r. ⌜ Reads (now (bytes .entry)) (now (place .entry)) (now (place .exit)) r ⌝ }
+    ensures reads { λ r. ⌜ Reads (now (bytes .entry)) (now (place .entry)) (now (place .exit)) r ⌝ }
+    ensures reads_files { λ r. ⌜ ReadsFiles (now (bytes .entry)) (now (place .exit)) r ⌝ }
 {
     *place = tasks_in(bytes)?;
     Ok(())
