@@ -6,3 +6,5 @@ pub mod Laid
 pub mod ReadsBack
 pub mod Reports
 pub mod Verdicts
+pub mod Encodes
+pub mod LaidOut

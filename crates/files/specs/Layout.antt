@@ -12,13 +12,19 @@
 --   KeepsLimits r    the row r keeps the limits of a task
 --   Fits i           a task that keeps the limits, or a note that is not too long for its length to be one byte
 --   ListFile bs rs   bs is a list file, and its tasks have the rows rs
+--   ReadsFiles bs new a    reading bs answers a, and is accepted exactly if bs is a list file; the list `new` then has its rows
 use mathlib.Core.Path.{_≡_}
+use mathlib.Core.Bool.{true}
 use mathlib.Core.List.{List, [], _∷_, _++_}
 use Prim.Native.Nat.{ℕ, _/_, _%_, _≤_}
 use lib.ListN.{length}
 use Rattle.std.specs.Joined.{joined}
 use Rattle.std.specs.shelf.Lists.{All}
-use Rattle.tasks.specs.List.{Row}
+use Rattle.std.specs.Results.{isOk}
+use Rattle.std.specs.declared.result.Result.{Result}
+use Rattle.files.specs.declared.fault.ListFault.{ListFault}
+use Rattle.tasks.specs.List.{Row, rows, listed}
+use Rattle.tasks.specs.declared.list.TaskList.{TaskList}
 
 abbrev pub twoBytes : ℕ → List ℕ
 twoBytes n = n / 256 ∷ n % 256 ∷ []
@@ -73,3 +79,7 @@ pub record ListFile (bs : List ℕ) (rs : List Row) : Type 0 where
   pub few : length rs ≤ 32
   pub bytes : bs ≡ joined itemBytes items ++ endRecord (length rs)
   pub short : length bs ≤ 8192
+
+pub record ReadsFiles (bs : List ℕ) (new : TaskList) (answer : Result (Unit {0}) ListFault) : Type 0 where
+  pub only-files : isOk answer ≡ true → ListFile bs (rows (listed new))
+  pub all-files : (rs : List Row) → ListFile bs rs → (isOk answer ≡ true) × (rows (listed new) ≡ rs)

@@ -1,12 +1,16 @@
-// Reading a list file.
-ghost use Prim.Native.Nat.{_≤_};
+// Reading and writing a list file.
+ghost use Prim.Native.Nat.{_+_, _≤_};
 ghost use Rattle.files.specs.Decoding.{endFault, takes, decoded, Reads};
 ghost use Rattle.files.specs.Format.{view};
+ghost use Rattle.files.specs.Layout.{taskRecord, endRecord, encoded, ReadsFiles};
+ghost use Rattle.files.specs.Printing.{Writes};
+ghost use Rattle.files.specs.Text.{written};
 ghost use Rattle.std.specs.Results.{Cases};
 ghost use Rattle.std.specs.declared.option.Option.the-variants.{Some, None};
 ghost use Rattle.std.specs.declared.result.Result.the-variants.{Ok, Err};
-ghost use Rattle.tasks.specs.List.{rows, listed, opened};
+ghost use Rattle.tasks.specs.List.{row, rows, listed, opened};
 ghost use lib.ListN.{length};
+ghost use mathlib.Core.List.{_++_};
 ghost use mathlib.Core.Path.{_≡_};
 use crate::fault::ByteFault;
 use crate::fault::ListFault;
@@ -15,8 +19,10 @@ use crate::fault::calls::ListFaultFromTask;
 use crate::reader::Reader;
 use crate::record::FileKind;
 use crate::record::Record;
+use crate::text::Text;
 use tasks::list::OpenList;
 use tasks::list::TaskList;
+use tasks::task::Task;
 
 // The longest file, in bytes.
 pub const MAX_FILE: usize = 8_192;
@@ -85,8 +91,56 @@ fn tasks_in(bytes: &[u8]) -> Result<TaskList, ListFault>
 
 // Reads a list file into the lent list. A refusal leaves that as it was.
 pub fn read_list(bytes: &[u8], place: &mut TaskList) -> Result<(), ListFault>
-    ensures { λ r. ⌜ Reads (now (bytes .entry)) (now (place .entry)) (now (place .exit)) r ⌝ }
+    ensures reads { λ r. ⌜ Reads (now (bytes .entry)) (now (place .entry)) (now (place .exit)) r ⌝ }
+    ensures reads_files { λ r. ⌜ ReadsFiles (now (bytes .entry)) (now (place .exit)) r ⌝ }
 {
     *place = tasks_in(bytes)?;
     Ok(())
+}
+
+// Puts the record of a task behind the text.
+fn push_task(text: &mut Text, task: &Task)
+    requires { ⌜ length (written (now text)) + 25 ≤ 4096 ⌝ }
+    ensures { λ _. ⌜ written (now (text .exit)) ≡ written (now (text .entry)) ++ taskRecord (row (now (task .entry))) ⌝ }
+{
+    let name = task.name.bytes();
+    let cost = task.cost;
+    let period = task.period;
+    text.push(
+        &[
+            0xa7,
+            0x5e,
+            1,
+            5 + name.len() as u8,
+            task.preference.number(),
+            (cost / 256) as u8,
+            (cost % 256) as u8,
+            (period / 256) as u8,
+            (period % 256) as u8,
+        ],
+    );
+    text.push(name);
+}
+
+// Puts the end record of a file with so many tasks behind the text.
+fn push_end(text: &mut Text, tasks: usize)
+    requires room { ⌜ length (written (now text)) + 6 ≤ 4096 ⌝ }
+    requires few { ⌜ tasks ≤ 32 ⌝ }
+    ensures { λ _. ⌜ written (now (text .exit)) ≡ written (now (text .entry)) ++ endRecord tasks ⌝ }
+{
+    text.push(&[0xa7, 0x5e, 3, 2, (tasks / 256) as u8, (tasks % 256) as u8]);
+}
+
+// Writes a list file and answers its length. Refused, with nothing written, exactly if the buffer is shorter.
+pub fn write_list(list: &TaskList, buffer: &mut [u8]) -> Result<usize, ByteFault>
+    ensures writes { λ r. ⌜ Writes (encoded (rows (listed (now (list .entry))))) (now (buffer .entry)) (now (buffer .exit)) r ⌝ }
+    ensures reads_back { λ _. ⌜ decoded (encoded (rows (listed (now (list .entry))))) ≡ Ok (rows (listed (now (list .entry)))) ⌝ }
+{
+    let tasks = list.tasks();
+    let mut text = Text::new();
+    for task in tasks {
+        push_task(&mut text, task);
+    }
+    push_end(&mut text, tasks.len());
+    text.copy_to(buffer)
 }
