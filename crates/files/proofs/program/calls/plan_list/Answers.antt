@@ -11,9 +11,9 @@ returns-in-Break-plan-exact c =
     let p = err-from-errBy (c .from-residual-in-Break-plan-exact .result) (c .from-residual-in-Break-plan-exact .ensures .1) in
     let told = c .in-Break-plan-exact .ensures tt in
     subst (Plans (c .args .input .now) (c .plan-exact .last .place)) (sym (p .1 ∙ ap Err (p .2)))
-    (of-left (c .args .input .now) (c .read-list .last .place) _ (c .in-Continue-read-list .ensures tt .says) (told .answer))
+    (of-left (c .args .input .now) (c .read-list .last .place) _ (c .in-Continue-read-list .ensures tt .reads .says) (told .answer))
 
 pub returns : need.returns
 returns c =
     let told = c .in-Continue-plan-exact .ensures tt in
-    of-plan (c .args .input .now) (c .read-list .last .place) _ _ (c .in-Continue-read-list .ensures tt .says) (told .answer) (told .written path.refl)
+    of-plan (c .args .input .now) (c .read-list .last .place) _ _ (c .in-Continue-read-list .ensures tt .reads .says) (told .answer) (told .written path.refl)
