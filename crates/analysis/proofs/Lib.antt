@@ -1,4 +1,5 @@
 pub mod DemandLaws
 pub mod Least
 pub mod ResponseLaws
+pub mod WholePeriodLaws
 pub mod Premised

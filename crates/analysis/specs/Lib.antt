@@ -1,3 +1,4 @@
 pub mod Demand
 pub mod Response
+pub mod WholePeriod
 pub mod Question

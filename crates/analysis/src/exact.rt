@@ -1,43 +1,16 @@
 // The exact test: its bound is the response, the smallest number of ticks in which the demand is met.
-ghost use Prim.Native.Nat.{_*_, _^_, _<_};
-ghost use Rattle.analysis.specs.Demand.{ceil};
-ghost use Rattle.analysis.specs.Demand.{demand as demandOf};
+ghost use Prim.Native.Nat.{_<_};
 ghost use Rattle.analysis.specs.Question.{Answered};
 ghost use Rattle.analysis.specs.Response.{response as responseOf, Smallest};
 ghost use Rattle.std.specs.Vec.{made};
 ghost use Rattle.tasks.specs.List.{listed};
 ghost use lib.ListN.{length};
 ghost use mathlib.Core.Path.{_≡_};
+use crate::demand::demand;
 use crate::fault::QuestionFault;
 use crate::question::well_put;
 use crate::test::Test;
 use tasks::list::TaskList;
-use tasks::task::Task;
-
-// What the jobs of a task that begin in so many ticks ask for.
-fn jobs_charge(task: Task, ticks: u16) -> u64
-    ensures value { λ r. ⌜ r ≡ task .cost * ceil ticks (task .period) ⌝ }
-    ensures small { λ r. ⌜ r < 2 ^ 32 ⌝ }
-{
-    u64::from(task.cost) * u64::from(ticks.div_ceil(task.period))
-}
-
-// The demand of a listed task below a set, in so many ticks.
-fn demand(list: &TaskList, set: u32, task: usize, ticks: u16) -> u64
-    requires { ⌜ task < length (listed (now list)) ⌝ }
-    ensures { λ r. ⌜ r ≡ demandOf (now (list .entry)) set task ticks ⌝ }
-{
-    let tasks = list.tasks();
-    let mut sum = u64::from(tasks[task].cost);
-    let mut rest = set;
-    for other in tasks {
-        if rest % 2 == 1 {
-            sum += jobs_charge(*other, ticks);
-        }
-        rest /= 2;
-    }
-    sum
-}
 
 // The response of a listed task below a set: raised straight to the demand until the two agree, or the deadline is passed.
 fn response(list: &TaskList, set: u32, task: usize) -> Option<u16>

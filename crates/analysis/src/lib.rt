@@ -2,7 +2,9 @@
 //
 //     let bound = ExactTest.ask(&list, set, task)?;
 
+mod demand;
 pub mod exact;
 pub mod fault;
 pub mod question;
 pub mod test;
+pub mod whole_period;

@@ -3,7 +3,7 @@ use mathlib.Core.Path.{_≡_}
 use Prim.Native.Nat.{_+_, _*_, _^_, _≤_}
 use lib.ListN.{drop}
 use Rattle.analysis.specs.Demand.{load, demand}
-use Rattle.analysis.proofs.exact.demand.Given as given
+use Rattle.analysis.proofs.demand.demand.Given as given
 
 abbrev pub Inv-loop-other : given.InvT-loop-other
 Inv-loop-other l =

@@ -3,7 +3,7 @@ use native.Mathlib.Omega.{arith}
 use Prim.Native.Nat.{_*_}
 use Rattle.analysis.specs.Demand.{ceil}
 use Rattle.analysis.proofs.DemandLaws.{ceil-is, jobs-small}
-use Rattle.analysis.proofs.exact.jobs_charge.Needs as need
+use Rattle.analysis.proofs.demand.jobs_charge.Needs as need
 
 pub returns : need.returns
 returns c =

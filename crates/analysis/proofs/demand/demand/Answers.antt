@@ -6,8 +6,8 @@ use Rattle.tasks.specs.List.{listed, taskAt}
 use Rattle.tasks.proofs.Reading.{read-is, listed-few}
 use Rattle.analysis.specs.Demand.{charge, ceil, load, demand}
 use Rattle.analysis.proofs.DemandLaws.{load-more, load-all}
-use Rattle.analysis.proofs.exact.demand.Needs as need
-use Rattle.analysis.proofs.exact.demand.Needs.{then-rest-eq1, else-rest-eq1}
+use Rattle.analysis.proofs.demand.demand.Needs as need
+use Rattle.analysis.proofs.demand.demand.Needs.{then-rest-eq1, else-rest-eq1}
 
 zero-bit : (n : ℕ) → (n % 2 ≡ 1 → ⊥) → n % 2 ≡ 0
 zero-bit n h = omega arith
