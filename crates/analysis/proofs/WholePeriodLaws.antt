@@ -26,12 +26,12 @@ within-some : (d limit b : ℕ) → within d limit ≡ Some b → (b ≡ d) × (
 within-some d limit b e =
     ⊎-elim
     (λ (t : leb d limit ≡ true).
-        let both : Some d ≡ Some b = sym (cond-true (leb d limit) (Some d) None t) ∙ e in
-        let same : d ≡ b = cc in
-        (sym same, leb-true d limit t))
+    let both : Some d ≡ Some b = sym (cond-true (leb d limit) (Some d) None t) ∙ e in
+    let same : d ≡ b = cc in
+    (sym same, leb-true d limit t))
     (λ (f : leb d limit ≡ false).
-        let clash : None ≡ Some b = sym (cond-false (leb d limit) (Some d) None f) ∙ e in
-        absurd (let z : _≡_ {A = ℕ} 0 1 = cc in omega arith))
+    let clash : None ≡ Some b = sym (cond-false (leb d limit) (Some d) None f) ∙ e in
+    absurd (let z : _≡_ {A = ℕ} 0 1 = cc in omega arith))
     (cases-bool (leb d limit))
 
 pub whole-fewer : (l : TaskList) (a S i b : ℕ) → Within a S → wholePeriod l S i ≡ Some b → (c : ℕ) × (wholePeriod l a i ≡ Some c) × (c ≤ b)

@@ -4,7 +4,10 @@ use std::test::*;
 
 #[test]
 fn empty_list() -> Result<(), Fail> {
-    plans(b"\xa7\x5e\x03\x02\x00\x00", b"task rank bound hold\ntests 0\n")
+    plans(
+        b"\xa7\x5e\x03\x02\x00\x00",
+        b"task rank bound hold\ntests 0\n",
+    )
 }
 
 // (cost, period): (1,5) and (3,10) ASAP, (1,5) and (1,10) ALAP.

@@ -12,7 +12,10 @@ fn cut_off() -> Result<(), Fail> {
     refuses(b"", b"refused 2 bytes 0\n")?;
     refuses(b"\xa7\x5e\x03", b"refused 2 bytes 0\n")?;
     refuses(b"\xa7\x5e\x02\x00\xa7\x5e\x03", b"refused 2 bytes 4\n")?;
-    refuses(b"\xa7\x5e\x01\x06\x00\x00\x01\x00\x05", b"refused 2 bytes 0\n")
+    refuses(
+        b"\xa7\x5e\x01\x06\x00\x00\x01\x00\x05",
+        b"refused 2 bytes 0\n",
+    )
 }
 
 #[test]
@@ -21,19 +24,40 @@ fn wrong_records() -> Result<(), Fail> {
     refuses(b"\xa8\x5e\x03\x02\x00\x00", b"refused 3 bytes 0\n")?;
     refuses(b"\xa7\x5e\x04\x04\x00\x01\x00\x00", b"refused 4 bytes 0\n")?;
     refuses(b"\xa7\x5e\x00\x00", b"refused 4 bytes 0\n")?;
-    refuses(b"\xa7\x5e\x01\x05\x00\x00\x01\x00\x05", b"refused 5 bytes 0\n")?;
+    refuses(
+        b"\xa7\x5e\x01\x05\x00\x00\x01\x00\x05",
+        b"refused 5 bytes 0\n",
+    )?;
     refuses(b"\xa7\x5e\x01\x16\x00", b"refused 5 bytes 0\n")?;
-    refuses(b"\xa7\x5e\x02\x00\xa7\x5e\x03\x03\x00\x00\x00", b"refused 5 bytes 4\n")
+    refuses(
+        b"\xa7\x5e\x02\x00\xa7\x5e\x03\x03\x00\x00\x00",
+        b"refused 5 bytes 4\n",
+    )
 }
 
 // Where two things are wrong, the earlier check speaks.
 #[test]
 fn wrong_tasks() -> Result<(), Fail> {
-    refuses(b"\xa7\x5e\x01\x06\x02\x00\x00\x00\x05a", b"refused 6 task 0\n")?;
-    refuses(b"\xa7\x5e\x01\x06\x00\x00\x00\x00\x00a", b"refused 7 task 0\n")?;
-    refuses(b"\xa7\x5e\x02\x00\xa7\x5e\x01\x06\x01\x00\x06\x00\x05a", b"refused 8 task 4\n")?;
-    refuses(b"\xa7\x5e\x01\x06\x01\xff\xff\x00\x05a", b"refused 8 task 0\n")?;
-    refuses(b"\xa7\x5e\x01\x06\x00\x00\x01\xea\x61a", b"refused 9 task 0\n")
+    refuses(
+        b"\xa7\x5e\x01\x06\x02\x00\x00\x00\x05a",
+        b"refused 6 task 0\n",
+    )?;
+    refuses(
+        b"\xa7\x5e\x01\x06\x00\x00\x00\x00\x00a",
+        b"refused 7 task 0\n",
+    )?;
+    refuses(
+        b"\xa7\x5e\x02\x00\xa7\x5e\x01\x06\x01\x00\x06\x00\x05a",
+        b"refused 8 task 4\n",
+    )?;
+    refuses(
+        b"\xa7\x5e\x01\x06\x01\xff\xff\x00\x05a",
+        b"refused 8 task 0\n",
+    )?;
+    refuses(
+        b"\xa7\x5e\x01\x06\x00\x00\x01\xea\x61a",
+        b"refused 9 task 0\n",
+    )
 }
 
 // The 33rd task is refused at its record: 32 records of ten bytes come before it.
@@ -49,7 +73,10 @@ fn too_many_tasks() -> Result<(), Fail> {
 #[test]
 fn wrong_ends() -> Result<(), Fail> {
     refuses(b"\xa7\x5e\x03\x02\x00\x01", b"refused 11 bytes 0\n")?;
-    refuses(b"\xa7\x5e\x02\x00\xa7\x5e\x03\x02\x00\x01", b"refused 11 bytes 4\n")?;
+    refuses(
+        b"\xa7\x5e\x02\x00\xa7\x5e\x03\x02\x00\x01",
+        b"refused 11 bytes 4\n",
+    )?;
     refuses(b"\xa7\x5e\x03\x02\x01\x00\x00", b"refused 11 bytes 0\n")?;
     refuses(b"\xa7\x5e\x03\x02\x00\x00\x00", b"refused 12 bytes 6\n")
 }

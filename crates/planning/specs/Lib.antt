@@ -3,4 +3,5 @@ pub mod Rounds
 pub mod Drafts
 pub mod Orders
 pub mod Plans
+pub mod Rows
 pub mod Planning

@@ -2,3 +2,4 @@ pub mod Task
 pub mod Faults
 pub mod List
 pub mod Set
+pub mod Standing

@@ -7,4 +7,5 @@
 pub mod fault;
 pub mod list;
 pub mod set;
+pub mod standing;
 pub mod task;
