@@ -86,8 +86,9 @@ body-fits r k b h = (λ i. lengthFits (h .kind i) (length-headed r k b h i)) ∙
 pub ends-within : (r : Reader) (k : ℕ) (b : List ℕ) → Headed r k b → (r .at + 4) + length b ≤ length (now (r .bytes))
 ends-within r k b h = omega (arith, length-headed r k b h, within (r .kind) (r .at) (now (r .bytes)) (h .fault))
 
-pub shows : (old new : Reader) (k : ℕ) (b : List ℕ) (s : Said) → Headed old k b → s ≡ said k b → new .at ≡ (old .at + 4) + length b → new .ended ≡ eqb k 3 → Shown old new (old .at) s
-shows old new k b s h says moved ends = record {
+pub shows : (old new : Reader) (k : ℕ) (b : List ℕ) (s : Said) → old .ended ≡ false → Headed old k b → s ≡ said k b → new .at ≡ (old .at + 4) + length b → new .ended ≡ eqb k 3 → Shown old new (old .at) s
+shows old new k b s unended h says moved ends = record {
+  unended = unended;
   sound = h .fault;
   place = refl;
   says = says ∙ (λ i. said (h .kind i) (h .body-is i));

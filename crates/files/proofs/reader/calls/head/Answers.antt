@@ -15,7 +15,7 @@ returns c =
     let rest = ap length (take-rest bs 4) in (
       no-fault (c .args .file) (c .args .place) bs (record {
         long = long;
-        mark = and-from _ _ (eq-eqb _ 0xa7 (c .if-high .left)) (eq-eqb _ 0x5e (c .if-low-ne94 .left));
+        mark = and-from _ _ (eq-eqb _ 0xa7 (c .if-first .left)) (eq-eqb _ 0x5e (c .if-second-ne-MARK-SECOND .left));
         kind = sym (c .if-not-has .ensures tt);
         fits = sym (c .if-not-length-fits .ensures tt);
         whole = omega (arith, length-drop 4 bs, c .if-rest-len .left);
