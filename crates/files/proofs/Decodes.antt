@@ -1,11 +1,10 @@
 -- Reading a list file record by record gives what the definition says: what is left of the run gives the whole run. Assumes nothing.
 use mathlib.Core.Path.{_≡_, refl, sym, ap, _∙_}
-use mathlib.Core.Bool.{Bool, true, false, cond}
-use mathlib.Core.List.{List, [], _∷_, _++_}
+use mathlib.Core.Bool.{Bool, true, false}
+use mathlib.Core.List.{List, []}
 use Prim.Native.Nat.{ℕ, zero, suc, _+_, _-_, _≤_, _<_}
 use native.Mathlib.Omega.{arith}
 use denote.Ref.{now}
-use lib.Dec.{ltb}
 use lib.ListN.{length, drop, length-drop}
 use Rattle.std.proofs.shelf.Results.{cases-at-some}
 use Rattle.std.proofs.shelf.Tests.{lt-ltb, le-ltb, cond-true, cond-false}
@@ -21,7 +20,6 @@ use Rattle.files.specs.declared.fault.ByteFault.the-variants.{TooLong, CutOff}
 use Rattle.files.specs.declared.fault.ListFault.{ListFault}
 use Rattle.files.specs.declared.fault.ListFault.the-variants.{Bytes}
 use Rattle.files.specs.declared.reader.Reader.{Reader}
-use Rattle.files.specs.declared.record.FileKind.{FileKind}
 use Rattle.files.specs.declared.record.FileKind.the-variants.{List as ListFile}
 use Rattle.files.specs.declared.record.Record.{Record}
 use Rattle.files.proofs.Heads.{within}

@@ -1,11 +1,11 @@
 -- What the head of a record tells: no fault where each of its checks passed, and each check passed where there is no fault. Assumes nothing.
 use mathlib.Core.Path.{_≡_, refl, sym, ap, _∙_}
-use mathlib.Core.Bool.{Bool, true, false, cond, not}
+use mathlib.Core.Bool.{Bool, true, false, cond}
 use mathlib.Core.List.{List}
-use Prim.Native.Nat.{ℕ, _+_, _-_, _≤_, _<_}
+use Prim.Native.Nat.{ℕ, _+_, _-_, _≤_}
 use native.Mathlib.Omega.{arith}
 use denote.Ref.{now}
-use lib.Dec.{ltb, eqb}
+use lib.Dec.{eqb}
 use lib.ListN.{length, take, drop, getD, length-drop}
 use Rattle.std.proofs.shelf.Lists.{take-rest, length-take-le}
 use Rattle.std.proofs.shelf.Tests.{le-ltb, ltb-false, not-false, cond-both}

@@ -8,7 +8,7 @@
 --   Refuses old new f    what stands at the reader `old` has the fault f, and the reader stays as it is
 --   Nexts old new a      asking `old` for the next record answers a and leaves `new`
 use mathlib.Core.Path.{_≡_}
-use mathlib.Core.Bool.{Bool, true, false}
+use mathlib.Core.Bool.{true, false}
 use mathlib.Core.List.{List}
 use Prim.Native.Nat.{ℕ, _+_}
 use denote.Ref.{now, RefT}

@@ -2,7 +2,7 @@ use native.Mathlib.Omega.{arith}
 use Rattle.std.proofs.shelf.Results.{err-from-errBy}
 use Rattle.files.specs.Format.{view}
 use Rattle.files.specs.Reading.{Shown}
-use Rattle.files.proofs.Decodes.{Going, starts, goes-on, place-within, head-refused, record-refused, too-long, shown-is}
+use Rattle.files.proofs.Decodes.{starts, goes-on, place-within, head-refused, record-refused, too-long, shown-is}
 use Rattle.files.proofs.list_file.tasks_in.Needs as need
 use Rattle.files.proofs.list_file.tasks_in.Needs.{In-Some}
 
