@@ -1,11 +1,10 @@
 -- Reading a list file record by record gives what the definition says: what is left of the run gives the whole run. Assumes nothing.
 use mathlib.Core.Path.{_≡_, refl, sym, ap, _∙_}
-use mathlib.Core.Bool.{Bool, true, false, cond}
-use mathlib.Core.List.{List, [], _∷_, _++_}
+use mathlib.Core.Bool.{Bool, true, false}
+use mathlib.Core.List.{List, []}
 use Prim.Native.Nat.{ℕ, zero, suc, _+_, _-_, _≤_, _<_}
 use native.Mathlib.Omega.{arith}
 use denote.Ref.{now}
-use lib.Dec.{ltb}
 use lib.ListN.{length, drop, length-drop}
 use Rattle.std.proofs.shelf.Results.{cases-at-some}
 use Rattle.std.proofs.shelf.Tests.{lt-ltb, le-ltb, cond-true, cond-false}
@@ -21,7 +20,6 @@ use Rattle.files.specs.declared.fault.ByteFault.the-variants.{TooLong, CutOff}
 use Rattle.files.specs.declared.fault.ListFault.{ListFault}
 use Rattle.files.specs.declared.fault.ListFault.the-variants.{Bytes}
 use Rattle.files.specs.declared.reader.Reader.{Reader}
-use Rattle.files.specs.declared.record.FileKind.{FileKind}
 use Rattle.files.specs.declared.record.FileKind.the-variants.{List as ListFile}
 use Rattle.files.specs.declared.record.Record.{Record}
 use Rattle.files.proofs.Heads.{within}
@@ -103,8 +101,8 @@ place-within bs r new l k at s g h =
     let m = moved-of bs r new l k at s g h in
     (h .place, omega (arith, h .place), omega arith, omega arith)
 
-pub goes-on : (bs : List ℕ) (r new : Reader) (l l′ : OpenList) (k k′ at : ℕ) (s : Said) → Going bs r l k → r .ended ≡ false → Shown r new at s → (now (new .bytes) ≡ now (r .bytes)) × (new .kind ≡ r .kind) → takes (length bs) at (rows (opened l)) s ≡ Ok (rows (opened l′)) → k′ ≡ length (opened l′) → Going bs new l′ k′
-goes-on bs r new l l′ k k′ at s g unended h same taken count =
+pub goes-on : (bs : List ℕ) (r new : Reader) (l l′ : OpenList) (k k′ at : ℕ) (s : Said) → Going bs r l k → Shown r new at s → (now (new .bytes) ≡ now (r .bytes)) × (new .kind ≡ r .kind) → takes (length bs) at (rows (opened l)) s ≡ Ok (rows (opened l′)) → k′ ≡ length (opened l′) → Going bs new l′ k′
+goes-on bs r new l l′ k k′ at s g h same taken count =
     let w = place-within bs r new l k at s g h in
     let n = spent (g .turns) (omega (arith, g .enough)) in
     record {
@@ -117,18 +115,18 @@ goes-on bs r new l l′ k k′ at s g unended h same taken count =
           (λ i. leftOver (h .ends i) (n .0) bs (moved-of bs r new l k at s g h i) (rows (opened l′)))
           ∙ sym (turn (n .0) bs (r .at) (rows (opened l)) (rows (opened l′)) s (head-of bs r l k None g (h .sound)) (says-of bs r new l k at s g h) (ap (λ a. takes (length bs) a (rows (opened l)) s) (sym (h .place)) ∙ taken))
           ∙ ap (λ m. decodedFrom m bs (r .at) (rows (opened l))) (sym (n .1))
-          ∙ open-run bs r l k g unended;
+          ∙ open-run bs r l k g (h .unended);
     }
 
 pub head-refused : (bs : List ℕ) (r : Reader) (l : OpenList) (k : ℕ) (f : ByteFault) → Going bs r l k → r .ended ≡ false → headFault (r .kind) (r .at) (left r) ≡ Some f → decoded bs ≡ Err (Bytes f)
 head-refused bs r l k f g unended e =
     sym (open-run bs r l k g unended) ∙ faulty (g .turns) bs (r .at) (rows (opened l)) f (g .enough) (head-of bs r l k (Some f) g e)
 
-pub record-refused : (bs : List ℕ) (r new : Reader) (l : OpenList) (k at : ℕ) (s : Said) (f : ListFault) → Going bs r l k → r .ended ≡ false → Shown r new at s → takes (length bs) at (rows (opened l)) s ≡ Err f → decoded bs ≡ Err f
-record-refused bs r new l k at s f g unended h taken =
+pub record-refused : (bs : List ℕ) (r new : Reader) (l : OpenList) (k at : ℕ) (s : Said) (f : ListFault) → Going bs r l k → Shown r new at s → takes (length bs) at (rows (opened l)) s ≡ Err f → decoded bs ≡ Err f
+record-refused bs r new l k at s f g h taken =
     let w = place-within bs r new l k at s g h in
     let n = spent (g .turns) (omega (arith, g .enough)) in
-    sym (open-run bs r l k g unended)
+    sym (open-run bs r l k g (h .unended))
     ∙ ap (λ m. decodedFrom m bs (r .at) (rows (opened l))) (n .1)
     ∙ refused (n .0) bs (r .at) (rows (opened l)) s f (head-of bs r l k None g (h .sound)) (says-of bs r new l k at s g h) (ap (λ a. takes (length bs) a (rows (opened l)) s) (sym (h .place)) ∙ taken)
 
@@ -140,5 +138,5 @@ unfolding decoded
 too-long bs h = cond-true _ _ _ (lt-ltb 8192 (length bs) h)
 
 -- what the reader answered, taken apart
-pub shown-is : (old new : Reader) (o : Option (ℕ × Record)) (at : ℕ) (r : Record) → o ≡ Some (at, r) → Nexts old new (Ok o) → (old .ended ≡ false) × Shown old new at (view r)
+pub shown-is : (old new : Reader) (o : Option (ℕ × Record)) (at : ℕ) (r : Record) → o ≡ Some (at, r) → Nexts old new (Ok o) → Shown old new at (view r)
 shown-is old new o at r e h = cases-at-some _ _ (at, r) e (h .answered)

@@ -10,7 +10,7 @@ use Rattle.std.specs.Joined.{joined}
 use Rattle.std.specs.shelf.Lists.{All}
 use Rattle.std.specs.declared.result.Result.the-variants.{Ok}
 use Rattle.files.specs.Decoding.{decoded}
-use Rattle.files.specs.Layout.{taskBody, taskRecord, endRecord, encoded, Item, task, itemBytes, itemRows, KeepsLimits, Fits, ListFile}
+use Rattle.files.specs.Layout.{taskBody, taskRecord, endRecord, encoded, task, itemBytes, itemRows, KeepsLimits, Fits, ListFile}
 use Rattle.files.proofs.ReadsBack.{file-decodes}
 use Rattle.tasks.proofs.Reading.{listed-few}
 use Rattle.tasks.specs.List.{Row, row, rows, listed}

@@ -1,11 +1,11 @@
 -- What the head of a record tells: no fault where each of its checks passed, and each check passed where there is no fault. Assumes nothing.
 use mathlib.Core.Path.{_≡_, refl, sym, ap, _∙_}
-use mathlib.Core.Bool.{Bool, true, false, cond, not}
+use mathlib.Core.Bool.{Bool, true, false, cond}
 use mathlib.Core.List.{List}
-use Prim.Native.Nat.{ℕ, _+_, _-_, _≤_, _<_}
+use Prim.Native.Nat.{ℕ, _+_, _-_, _≤_}
 use native.Mathlib.Omega.{arith}
 use denote.Ref.{now}
-use lib.Dec.{ltb, eqb}
+use lib.Dec.{eqb}
 use lib.ListN.{length, take, drop, getD, length-drop}
 use Rattle.std.proofs.shelf.Lists.{take-rest, length-take-le}
 use Rattle.std.proofs.shelf.Tests.{le-ltb, ltb-false, not-false, cond-both}
@@ -86,8 +86,9 @@ body-fits r k b h = (λ i. lengthFits (h .kind i) (length-headed r k b h i)) ∙
 pub ends-within : (r : Reader) (k : ℕ) (b : List ℕ) → Headed r k b → (r .at + 4) + length b ≤ length (now (r .bytes))
 ends-within r k b h = omega (arith, length-headed r k b h, within (r .kind) (r .at) (now (r .bytes)) (h .fault))
 
-pub shows : (old new : Reader) (k : ℕ) (b : List ℕ) (s : Said) → Headed old k b → s ≡ said k b → new .at ≡ (old .at + 4) + length b → new .ended ≡ eqb k 3 → Shown old new (old .at) s
-shows old new k b s h says moved ends = record {
+pub shows : (old new : Reader) (k : ℕ) (b : List ℕ) (s : Said) → old .ended ≡ false → Headed old k b → s ≡ said k b → new .at ≡ (old .at + 4) + length b → new .ended ≡ eqb k 3 → Shown old new (old .at) s
+shows old new k b s unended h says moved ends = record {
+  unended = unended;
   sound = h .fault;
   place = refl;
   says = says ∙ (λ i. said (h .kind i) (h .body-is i));

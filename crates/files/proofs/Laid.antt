@@ -1,16 +1,16 @@
 -- What is read of records that are laid out: their heads have no fault, and say what was laid out. Assumes nothing.
-use mathlib.Core.Path.{_≡_, refl, sym, ap, _∙_}
-use mathlib.Core.Bool.{true, false}
-use mathlib.Core.List.{List, [], _∷_, _++_}
-use Prim.Native.Nat.{ℕ, zero, suc, _+_, _-_, _*_, _/_, _%_, _≤_, _<_}
+use mathlib.Core.Path.{_≡_, refl, ap}
+use mathlib.Core.Bool.{true}
+use mathlib.Core.List.{List, _++_}
+use Prim.Native.Nat.{ℕ, _+_, _*_, _/_, _%_, _<_}
 use native.Mathlib.Omega.{arith}
-use lib.ListN.{length, take, drop, getD, length-append}
-use Rattle.std.proofs.shelf.Lists.{take-at, drop-at}
+use lib.ListN.{length, length-append}
+use Rattle.std.proofs.shelf.Lists.{take-at}
 use Rattle.std.proofs.shelf.Tests.{le-leb, lt-leb, le-ltb, eq-eqb, ne-eqb}
-use Rattle.std.specs.declared.option.Option.the-variants.{Some, None}
+use Rattle.std.specs.declared.option.Option.the-variants.{None}
 use Rattle.files.specs.Decoding.{endFault}
-use Rattle.files.specs.Format.{Said, task, note, end, headFault, kindFits, lengthFits, body, size, said, first}
-use Rattle.files.specs.Layout.{laid, twoBytes, KeepsLimits}
+use Rattle.files.specs.Format.{headFault, kindFits, lengthFits, size, said, first}
+use Rattle.files.specs.Layout.{laid, KeepsLimits}
 use Rattle.files.specs.declared.record.FileKind.{FileKind}
 use Rattle.files.proofs.Heads.{no-fault}
 use Rattle.tasks.specs.List.{Row, addFault}
@@ -26,9 +26,6 @@ head-laid f at k b rest kind fits = no-fault f at (laid k b ++ rest) (record {
 
 pub first-laid : (k : ℕ) (b rest : List ℕ) → first (laid k b ++ rest) ≡ said k b
 first-laid k b rest = ap (said k) (take-at b rest (length b) refl)
-
-pub length-laid : (k : ℕ) (b : List ℕ) → length (laid k b) ≡ 4 + length b
-length-laid k b = omega arith
 
 -- a number in two bytes is that number
 pub two-bytes : (n : ℕ) → n / 256 * 256 + n % 256 ≡ n

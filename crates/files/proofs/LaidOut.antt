@@ -1,13 +1,13 @@
 -- A file that reads as rows is laid out as the format says. Of its bytes it takes that they are below 256.
 use mathlib.Core.Path.{_≡_, refl, sym, ap, subst, _∙_}
-use mathlib.Core.Bool.{Bool, true, false, cond, not}
+use mathlib.Core.Bool.{Bool, true, false, cond}
 use mathlib.Core.List.{List, [], _∷_, _++_}
-use mathlib.Core.Logic.{_⊎_, inl, inr, ⊎-elim}
-use Prim.Native.Nat.{ℕ, zero, suc, _+_, _-_, _*_, _/_, _%_, _≤_, _<_}
+use mathlib.Core.Logic.{⊎-elim}
+use Prim.Native.Nat.{ℕ, zero, suc, _+_, _/_, _%_, _≤_, _<_}
 use native.Mathlib.Omega.{arith}
-use lib.Dec.{leb, ltb, eqb, lit≤}
-use lib.ListN.{length, take, drop, getD, length-append, length-drop, length-take}
-use Rattle.std.proofs.shelf.Lists.{drop-all, drop-drop, take-append-drop, append-assoc, append-nil, length-push, getD-take, getD-drop, getD-past, nil-from-length}
+use lib.Dec.{ltb, lit≤}
+use lib.ListN.{length, take, drop, getD, length-drop, length-take}
+use Rattle.std.proofs.shelf.Lists.{drop-all, drop-drop, take-append-drop, append-assoc, append-nil, length-push, getD-take, getD-drop, getD-past}
 use Rattle.std.proofs.shelf.Tests.{leb-true, leb-false, ltb-false, eqb-true, eqb-false, and-parts, not-false, cases-lt, true≢false}
 use Rattle.std.specs.Joined.{joined}
 use Rattle.std.specs.declared.option.Option.{Option}
@@ -16,8 +16,7 @@ use Rattle.std.specs.declared.result.Result.{Result}
 use Rattle.std.specs.declared.result.Result.the-variants.{Ok, Err}
 use Rattle.std.specs.shelf.Lists.{All}
 use Rattle.files.specs.Decoding.{takes, endFault, unlessTask, unlessBytes, goesOn, decodedFrom, decoded}
-use Rattle.files.specs.Format as format
-use Rattle.files.specs.Format.{Said, isEnd, number, headFault, kindFits, lengthFits, body, size, said, first}
+use Rattle.files.specs.Format.{isEnd, number, headFault, kindFits, lengthFits, body, size, said, first}
 use Rattle.files.specs.Layout.{laid, twoBytes, taskBody, taskRecord, endRecord, Item, task, note, itemBytes, itemRows, KeepsLimits, Fits, ListFile, ReadsFiles}
 use Rattle.files.specs.declared.fault.ByteFault.{ByteFault}
 use Rattle.files.specs.declared.fault.ListFault.{ListFault}
@@ -25,8 +24,7 @@ use Rattle.files.specs.declared.record.FileKind.{FileKind}
 use Rattle.files.specs.declared.record.FileKind.the-variants.{List as ListKind}
 use Rattle.files.proofs.Heads.{Sound, sound, length-body}
 use Rattle.files.proofs.ReadsBack.{file-decodes}
-use Rattle.tasks.specs.List.{Row, rows, listed, newRow, addFault, limitFault, orElse}
-use Rattle.tasks.specs.Task.{nameFits}
+use Rattle.tasks.specs.List.{Row, rows, listed, newRow, addFault, orElse}
 use Rattle.tasks.specs.declared.fault.TaskFault.{TaskFault}
 use Rattle.tasks.specs.declared.list.TaskList.{TaskList}
 

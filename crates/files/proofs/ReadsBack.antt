@@ -1,24 +1,23 @@
 -- A list file reads as the rows of its tasks, and what is written of a closed list reads back. Assumes nothing.
 use mathlib.Core.Path.{_≡_, refl, sym, ap, _∙_}
-use mathlib.Core.Bool.{true, false}
+use mathlib.Core.Bool.{true}
 use mathlib.Core.List.{List, [], _∷_, _++_}
-use Prim.Native.Nat.{ℕ, zero, suc, _+_, _-_, _*_, _/_, _%_, _≤_, _<_}
+use Prim.Native.Nat.{ℕ, suc, _+_, _-_, _≤_, _<_}
 use native.Mathlib.Omega.{arith}
-use lib.ListN.{length, take, drop, getD, length-append, length-drop}
+use lib.ListN.{length, drop, length-append, length-drop}
 use Rattle.std.proofs.shelf.Lists.{drop-at, drop-drop, append-assoc, append-nil, length-push}
 use Rattle.std.proofs.shelf.Tests.{le-leb, le-ltb, and-from, cond-false}
 use Rattle.std.specs.Joined.{joined}
 use Rattle.std.specs.shelf.Lists.{All}
-use Rattle.std.specs.declared.result.Result.the-variants.{Ok, Err}
+use Rattle.std.specs.declared.result.Result.the-variants.{Ok}
 use Rattle.files.specs.Decoding.{takes, decodedFrom, decoded, unlessTask, unlessBytes}
 use Rattle.files.specs.Format.{Said, isEnd, kindFits, lengthFits, size, said, first}
 use Rattle.files.specs.Format as format
-use Rattle.files.specs.Layout.{laid, twoBytes, taskBody, taskRecord, endRecord, encoded, Item, task, note, itemBytes, itemRows, KeepsLimits, Fits, ListFile}
+use Rattle.files.specs.Layout.{laid, twoBytes, taskBody, taskRecord, endRecord, Item, task, note, itemBytes, itemRows, KeepsLimits, Fits, ListFile}
 use Rattle.files.specs.declared.record.FileKind.the-variants.{List as ListFile′}
 use Rattle.files.proofs.Decodes.{leftOver, turn, spent}
-use Rattle.files.proofs.Heads.{no-fault}
 use Rattle.files.proofs.Laid.{head-laid, first-laid, two-bytes, row-added, end-good}
-use Rattle.tasks.specs.List.{Row, addFault}
+use Rattle.tasks.specs.List.{Row}
 
 -- one record that is laid out where reading stands
 laid-read : (k : ℕ) (b rest : List ℕ) (n : ℕ) (bs : List ℕ) (at : ℕ) (rs new : List Row) (s : Said) → drop at bs ≡ laid k b ++ rest → kindFits ListFile′ k ≡ true → lengthFits k (length b) ≡ true → s ≡ said k b → takes (length bs) at rs s ≡ Ok new → decodedFrom (suc n) bs at rs ≡ leftOver (isEnd s) n bs (at + (4 + length b)) new

@@ -1,5 +1,5 @@
 -- What a record of a list file does to the rows: a task adds one, a note none, the end record closes them. Assumes nothing.
-use mathlib.Core.Path.{_≡_, refl, sym, ap, _∙_}
+use mathlib.Core.Path.{_≡_, sym, ap, _∙_}
 use mathlib.Core.List.{[], _∷_, _++_}
 use Prim.Native.Nat.{ℕ, _+_}
 use native.Mathlib.Omega.{arith}
@@ -11,7 +11,7 @@ use Rattle.files.specs.Decoding.{takes, endFault, unlessTask, unlessBytes}
 use Rattle.files.specs.Format.{Said, task, end}
 use Rattle.files.specs.declared.fault.ByteFault.{ByteFault}
 use Rattle.files.specs.declared.fault.ListFault.the-variants.{Bytes, Task}
-use Rattle.tasks.specs.List.{Row, row, rows, opened, newRow, addFault, Adds}
+use Rattle.tasks.specs.List.{Row, row, rows, opened, addFault, Adds}
 use Rattle.tasks.specs.declared.fault.TaskFault.{TaskFault}
 use Rattle.tasks.specs.declared.list.OpenList.{OpenList}
 

@@ -4,6 +4,7 @@
 --   takes size at rs s        the rows after the record s at the place `at`, where rs are the rows before it, or what is wrong with it
 --   decodedFrom n bs at rs    the rows of the file bs, read on from the place `at` with the rows rs before it, in at most n records
 --   decoded bs                the rows of the list file bs, or what is wrong with it
+--   Takes size at s old new a    taking the record s at the place `at` turns the open list `old` into `new` and answers its length a
 --   Reads bs old new a        reading the bytes bs answers a, and turns the lent list `old` into `new`
 use mathlib.Core.Path.{_≡_}
 use mathlib.Core.Bool.{Bool, true, false, cond, not}
@@ -22,8 +23,9 @@ use Rattle.files.specs.declared.fault.ByteFault.the-variants.{TooLong, CutOff,
 use Rattle.files.specs.declared.fault.ListFault.{ListFault}
 use Rattle.files.specs.declared.fault.ListFault.the-variants.{Bytes, Task}
 use Rattle.files.specs.declared.record.FileKind.the-variants.{List as ListFile}
-use Rattle.tasks.specs.List.{Row, newRow, rows, listed, addFault}
+use Rattle.tasks.specs.List.{Row, newRow, rows, listed, opened, addFault}
 use Rattle.tasks.specs.declared.fault.TaskFault.{TaskFault}
+use Rattle.tasks.specs.declared.list.OpenList.{OpenList}
 use Rattle.tasks.specs.declared.list.TaskList.{TaskList}
 
 abbrev pub endFault : ℕ → ℕ → ℕ → ℕ → Option ByteFault
@@ -60,6 +62,10 @@ decodedFrom (suc n) bs at rs =
 
 unfoldable pub decoded : List ℕ → Result (List Row) ListFault
 decoded bs = cond (ltb 8192 (length bs)) (Err (Bytes (TooLong (length bs)))) (decodedFrom (length bs) bs 0 [])
+
+abbrev pub Takes : ℕ → ℕ → Said → OpenList → OpenList → Result ℕ ListFault → Type 0
+Takes size at s old new a =
+    Cases a (λ k. (takes size at (rows (opened old)) s ≡ Ok (rows (opened new))) × (k ≡ length (opened new))) (λ f. takes size at (rows (opened old)) s ≡ Err f)
 
 pub record Reads (bs : List ℕ) (old new : TaskList) (answer : Result (Unit {0}) ListFault) : Type 0 where
   pub says : Cases answer (λ _. decoded bs ≡ Ok (rows (listed new))) (λ f. decoded bs ≡ Err f)

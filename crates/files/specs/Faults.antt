@@ -8,7 +8,6 @@ use Rattle.files.specs.declared.fault.ByteFault.the-variants.{TooLong, CutOff,
 use Rattle.files.specs.declared.fault.ListFault.{ListFault}
 use Rattle.files.specs.declared.fault.ListFault.the-variants.{Bytes, Task}
 use Rattle.tasks.specs.Faults.{taskRefusal}
-use Rattle.tasks.specs.declared.fault.Layer as layer
 use Rattle.tasks.specs.declared.fault.Layer.the-variants.{Bytes as ByteLayer}
 use Rattle.tasks.specs.declared.fault.Refusal.{Refusal}
 

@@ -5,7 +5,7 @@
 --                           or, exactly if the buffer is shorter than the line, its length as a fault
 --   faultLine r             the line that the refusal r prints
 use mathlib.Core.Path.{_≡_}
-use mathlib.Core.List.{List, [], _∷_, _++_}
+use mathlib.Core.List.{List, _++_}
 use Prim.Native.Nat.{ℕ, _<_, _≤_}
 use lib.Chars.{codes}
 use lib.ListN.{length, drop}

@@ -1,6 +1,6 @@
 // Reading and writing a list file.
 ghost use Prim.Native.Nat.{_+_, _≤_};
-ghost use Rattle.files.specs.Decoding.{endFault, takes, decoded, Reads};
+ghost use Rattle.files.specs.Decoding.{endFault, decoded, Takes, Reads};
 ghost use Rattle.files.specs.Format.{view};
 ghost use Rattle.files.specs.Layout.{taskRecord, endRecord, encoded, ReadsFiles};
 ghost use Rattle.files.specs.Printing.{Writes};
@@ -17,8 +17,12 @@ use crate::fault::ListFault;
 use crate::fault::calls::ListFaultFromByte;
 use crate::fault::calls::ListFaultFromTask;
 use crate::reader::Reader;
+use crate::record::END;
 use crate::record::FileKind;
+use crate::record::MARK_FIRST;
+use crate::record::MARK_SECOND;
 use crate::record::Record;
+use crate::record::TASK;
 use crate::text::Text;
 use tasks::list::OpenList;
 use tasks::list::TaskList;
@@ -54,7 +58,7 @@ fn take_record(
 ) -> Result<usize, ListFault>
     requires place { ⌜ at ≤ size ⌝ }
     requires count { ⌜ tasks ≡ length (opened (now list)) ⌝ }
-    ensures { λ r. ⌜ Cases r (λ k. (takes size at (rows (opened (now (list .entry)))) (view («record» .entry)) ≡ Ok (rows (opened (now (list .exit))))) × (k ≡ length (opened (now (list .exit))))) (λ f. takes size at (rows (opened (now (list .entry)))) (view («record» .entry)) ≡ Err f) ⌝ }
+    ensures { λ r. ⌜ Takes size at (view («record» .entry)) (now (list .entry)) (now (list .exit)) r ⌝ }
 {
     match record {
         Record::Task {
@@ -108,9 +112,9 @@ fn push_task(text: &mut Text, task: &Task)
     let period = task.period;
     text.push(
         &[
-            0xa7,
-            0x5e,
-            1,
+            MARK_FIRST,
+            MARK_SECOND,
+            TASK,
             5 + name.len() as u8,
             task.preference.number(),
             (cost / 256) as u8,
@@ -128,7 +132,16 @@ fn push_end(text: &mut Text, tasks: usize)
     requires few { ⌜ tasks ≤ 32 ⌝ }
     ensures { λ _. ⌜ written (now (text .exit)) ≡ written (now (text .entry)) ++ endRecord tasks ⌝ }
 {
-    text.push(&[0xa7, 0x5e, 3, 2, (tasks / 256) as u8, (tasks % 256) as u8]);
+    text.push(
+        &[
+            MARK_FIRST,
+            MARK_SECOND,
+            END,
+            2,
+            (tasks / 256) as u8,
+            (tasks % 256) as u8,
+        ],
+    );
 }
 
 // Writes a list file and answers its length. Refused, with nothing written, exactly if the buffer is shorter.

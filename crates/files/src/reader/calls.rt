@@ -1,14 +1,14 @@
 // Making a reader, and asking it for the next record.
 ghost use Prim.Native.Nat.{_^_, _<_};
-ghost use Rattle.files.specs.Format.{headFault, body as bodyOf};
-ghost use Rattle.files.specs.Reading.{Begins, Nexts};
-ghost use Rattle.std.specs.Results.{Cases};
-ghost use Rattle.std.specs.declared.option.Option.the-variants.{Some, None};
-ghost use lib.ListN.{length, getD, drop};
+ghost use Rattle.files.specs.Reading.{ReadsHead, Begins, Nexts};
+ghost use lib.ListN.{length, drop};
 ghost use mathlib.Core.Path.{_≡_};
 use super::Reader;
 use crate::fault::ByteFault;
+use crate::record::END;
 use crate::record::FileKind;
+use crate::record::MARK_FIRST;
+use crate::record::MARK_SECOND;
 use crate::record::Record;
 use crate::record::calls::length_fits;
 
@@ -22,12 +22,12 @@ fn rest_from(bytes: &[u8], at: usize) -> &[u8]
 
 // Kind and body of the record that begins these bytes, which stand at a place of a file.
 fn head(file: FileKind, place: u64, bytes: &[u8]) -> Result<(u8, &[u8]), ByteFault>
-    ensures { λ r. ⌜ Cases r (λ h. (headFault file place (now (bytes .entry)) ≡ None) × (h .0 ≡ getD (now (bytes .entry)) 2 0) × (now (h .1) ≡ bodyOf (now (bytes .entry)))) (λ f. headFault file place (now (bytes .entry)) ≡ Some f) ⌝ }
+    ensures { λ r. ⌜ ReadsHead file place (now (bytes .entry)) r ⌝ }
 {
-    let [high, low, kind, len, rest @ ..] = bytes else {
+    let [first, second, kind, len, rest @ ..] = bytes else {
         return Err(ByteFault::CutOff(place));
     };
-    if *high != 0xa7 || *low != 0x5e {
+    if *first != MARK_FIRST || *second != MARK_SECOND {
         return Err(ByteFault::WrongMark(place));
     }
     if !file.has(*kind) {
@@ -73,7 +73,7 @@ impl<'a> Reader<'a> {
         let at = self.at;
         let (kind, body) = head(self.kind, at as u64, rest_from(self.bytes, at))?;
         self.at = at + 4 + body.len();
-        self.ended = kind == 3;
+        self.ended = kind == END;
         Ok(Some((at, Record::with_body(kind, body))))
     }
 }

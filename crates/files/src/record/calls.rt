@@ -1,12 +1,15 @@
 // Which records a file may have, how long they are, and what their bodies say.
-ghost use Prim.Native.Nat.{_≤_};
 ghost use Rattle.files.specs.Format.{kindFits, lengthFits, said, view};
 ghost use Rattle.files.specs.Format.{number as numberOf};
 ghost use lib.ListN.{length};
 ghost use mathlib.Core.Bool.{true};
 ghost use mathlib.Core.Path.{_≡_};
+use super::END;
 use super::FileKind;
+use super::NOTE;
+use super::PLAN_ROW;
 use super::Record;
+use super::TASK;
 
 impl FileKind {
     // Whether a file of this kind may have records of that kind.
@@ -14,8 +17,8 @@ impl FileKind {
         ensures { λ r. ⌜ r ≡ kindFits self kind ⌝ }
     {
         match self {
-            FileKind::List => kind >= 1 && kind <= 3,
-            FileKind::Plan => kind >= 2 && kind <= 4,
+            FileKind::List => kind >= TASK && kind <= END,
+            FileKind::Plan => kind >= NOTE && kind <= PLAN_ROW,
         }
     }
 }
@@ -25,9 +28,9 @@ pub(crate) fn length_fits(kind: u8, len: u8) -> bool
     ensures { λ r. ⌜ r ≡ lengthFits kind len ⌝ }
 {
     match kind {
-        1 => len >= 6 && len <= 21,
-        2 => true,
-        3 => len == 2,
+        TASK => len >= 6 && len <= 21,
+        NOTE => true,
+        END => len == 2,
         _ => len == 4,
     }
 }
@@ -46,14 +49,14 @@ impl<'a> Record<'a> {
         ensures { λ r. ⌜ view r ≡ said kind (now (body .entry)) ⌝ }
     {
         match kind {
-            1 => Record::Task {
+            TASK => Record::Task {
                 preference: body[0],
                 cost: number(body[1], body[2]),
                 period: number(body[3], body[4]),
                 name: &body[5..],
             },
-            2 => Record::Note(body),
-            3 => Record::End(number(body[0], body[1])),
+            NOTE => Record::Note(body),
+            END => Record::End(number(body[0], body[1])),
             _ => Record::Plan {
                 task: body[0],
                 rank: body[1],

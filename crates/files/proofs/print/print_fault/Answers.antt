@@ -1,5 +1,5 @@
 -- The line has room: no number of it is longer than 20 bytes, and no word longer than 5.
-use mathlib.Core.Path.{ap, _∙_}
+use mathlib.Core.Path.{ap}
 use native.Mathlib.Omega.{arith}
 use borrow.Author.Needs.{needs}
 use lib.ListN.{length}

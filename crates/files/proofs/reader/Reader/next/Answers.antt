@@ -21,5 +21,6 @@ with-body-requires c κs = body-fits _ _ _ (read (need.at·with-body-requires c 
 pub returns : need.returns
 returns c = record {
   file = (refl, refl);
-  answered = (c .if-self .left, shows (c .args .self .now) _ (c .in-Continue-kind .kind) (c .in-Continue-kind .body .now) _ (read (need.at·returns c .In-Continue-kind)) (c .with-body .ensures) refl refl);
+  answered =
+      shows (c .args .self .now) _ (c .in-Continue-kind .kind) (c .in-Continue-kind .body .now) _ (c .if-self .left) (read (need.at·returns c .In-Continue-kind)) (c .with-body .ensures) refl refl;
 }

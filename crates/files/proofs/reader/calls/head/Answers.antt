@@ -1,8 +1,8 @@
-use mathlib.Core.Path.{refl, sym, ap, _≡_}
-use Prim.Native.Nat.{_≤_, _-_}
+use mathlib.Core.Path.{refl, sym, ap}
+use Prim.Native.Nat.{_≤_}
 use borrow.Author.Needs.{needs}
 use native.Mathlib.Omega.{arith}
-use lib.ListN.{length, take, drop, length-drop}
+use lib.ListN.{length, length-drop}
 use Rattle.std.proofs.shelf.Lists.{take-rest}
 use Rattle.std.proofs.shelf.Tests.{eq-eqb, and-from}
 use Rattle.files.proofs.Heads.{no-fault, part-is}
@@ -15,7 +15,7 @@ returns c =
     let rest = ap length (take-rest bs 4) in (
       no-fault (c .args .file) (c .args .place) bs (record {
         long = long;
-        mark = and-from _ _ (eq-eqb _ 0xa7 (c .if-high .left)) (eq-eqb _ 0x5e (c .if-low-ne94 .left));
+        mark = and-from _ _ (eq-eqb _ 0xa7 (c .if-first .left)) (eq-eqb _ 0x5e (c .if-second-ne-MARK-SECOND .left));
         kind = sym (c .if-not-has .ensures tt);
         fits = sym (c .if-not-length-fits .ensures tt);
         whole = omega (arith, length-drop 4 bs, c .if-rest-len .left);
