@@ -1,7 +1,9 @@
 -- What the bytes of a list file say.
 --
 --   endFault size at k n      what is wrong with an end record at the place `at` that counts n, after k tasks, in a file of `size` bytes
+--   unlessTask o rs, unlessBytes o rs    the rows rs, unless there is a fault o
 --   takes size at rs s        the rows after the record s at the place `at`, where rs are the rows before it, or what is wrong with it
+--   goesOn o t e more         a fault o, or the rows t that a record leaves: with them reading ends if e, and else goes on by `more`
 --   decodedFrom n bs at rs    the rows of the file bs, read on from the place `at` with the rows rs before it, in at most n records
 --   decoded bs                the rows of the list file bs, or what is wrong with it
 --   Takes size at s old new a    taking the record s at the place `at` turns the open list `old` into `new` and answers its length a
