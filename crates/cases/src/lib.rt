@@ -1,8 +1,16 @@
-// Examples of what matplan's work says for whole files, each worked out by hand from the rules in docs/.
+// Examples of lists, tests, plans and whole files, each worked out by hand from the rules in docs/.
 
+#[cfg(test)]
+mod lists;
+#[cfg(test)]
+mod planned;
 #[cfg(test)]
 mod plans;
 #[cfg(test)]
 mod refusals;
 #[cfg(test)]
+mod rows;
+#[cfg(test)]
 mod says;
+#[cfg(test)]
+mod tried;
