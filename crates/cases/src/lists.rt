@@ -15,7 +15,14 @@ use tasks::task::PreferencePartialEq;
 fn refuses(answer: Result<usize, TaskFault>, number: u8, place: u64) -> Result<(), Fail> {
     match answer {
         Ok(_) => Err(Fail::new("not refused")),
-        Err(fault) => check_eq(fault.refusal(), Refusal { number, layer: Layer::Task, place }),
+        Err(fault) => check_eq(
+            fault.refusal(),
+            Refusal {
+                number,
+                layer: Layer::Task,
+                place,
+            },
+        ),
     }
 }
 

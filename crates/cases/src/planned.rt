@@ -36,7 +36,14 @@ fn leaves(answer: Result<Tally, PlanFault>, expected: Tally) -> Result<(), Fail>
 fn standing() -> Result<(), Fail> {
     let mut plan = Plan::empty();
     let tally = plan_exact(&standing_list(), &mut plan)?;
-    check_eq(tally, Tally { placed: 8, questions: 20, left: 0 })?;
+    check_eq(
+        tally,
+        Tally {
+            placed: 8,
+            questions: 20,
+            left: 0,
+        },
+    )?;
     has(&plan, 0, 7, 2, 0)?;
     has(&plan, 1, 8, 1, 0)?;
     has(&plan, 2, 6, 4, 0)?;
@@ -57,12 +64,26 @@ fn left_over() -> Result<(), Fail> {
     check_eq(open.add(b"a", 0, 2, 5)?, 0)?;
     check_eq(open.add(b"b", 0, 4, 7)?, 1)?;
     check_eq(open.add(b"c", 0, 1, 1000)?, 2)?;
-    leaves(plan_exact(&open.close(), &mut plan), Tally { placed: 1, questions: 5, left: 3 })?;
+    leaves(
+        plan_exact(&open.close(), &mut plan),
+        Tally {
+            placed: 1,
+            questions: 5,
+            left: 3,
+        },
+    )?;
     check_eq(plan.list().len(), 0)?;
     let mut full = OpenList::new();
     check_eq(full.add(b"a", 0, 2, 4)?, 0)?;
     check_eq(full.add(b"b", 0, 3, 6)?, 1)?;
-    leaves(plan_exact(&full.close(), &mut plan), Tally { placed: 0, questions: 2, left: 3 })
+    leaves(
+        plan_exact(&full.close(), &mut plan),
+        Tally {
+            placed: 0,
+            questions: 2,
+            left: 3,
+        },
+    )
 }
 
 // (6,11) has the response 10 below (2,5), but asks for 12 ticks over its whole period; and (2,5) has no bound below (6,11). So the
@@ -74,9 +95,30 @@ fn other_tests() -> Result<(), Fail> {
     check_eq(open.add(b"long", 0, 6, 11)?, 0)?;
     check_eq(open.add(b"short", 0, 2, 5)?, 1)?;
     let list = open.close();
-    check_eq(plan_exact(&list, &mut made)?, Tally { placed: 2, questions: 3, left: 0 })?;
-    leaves(plan(&WholePeriodTest, &list, &mut made), Tally { placed: 0, questions: 2, left: 3 })?;
-    leaves(plan(&NeverTest, &list, &mut made), Tally { placed: 0, questions: 2, left: 3 })?;
+    check_eq(
+        plan_exact(&list, &mut made)?,
+        Tally {
+            placed: 2,
+            questions: 3,
+            left: 0,
+        },
+    )?;
+    leaves(
+        plan(&WholePeriodTest, &list, &mut made),
+        Tally {
+            placed: 0,
+            questions: 2,
+            left: 3,
+        },
+    )?;
+    leaves(
+        plan(&NeverTest, &list, &mut made),
+        Tally {
+            placed: 0,
+            questions: 2,
+            left: 3,
+        },
+    )?;
     check_eq(made.list().len(), 2)
 }
 
@@ -89,7 +131,14 @@ fn full_list() -> Result<(), Fail> {
         let _ = open.add(b"a", 0, 1, 32)?;
     }
     let list = open.close();
-    check_eq(plan_exact(&list, &mut made)?, Tally { placed: 32, questions: 528, left: 0 })?;
+    check_eq(
+        plan_exact(&list, &mut made)?,
+        Tally {
+            placed: 32,
+            questions: 528,
+            left: 0,
+        },
+    )?;
     has(&made, 0, 1, 32, 0)?;
     has(&made, 31, 32, 1, 0)
 }

@@ -14,7 +14,14 @@ use tasks::list::OpenList;
 fn refuses(answer: Result<(), RowFault>, number: u8) -> Result<(), Fail> {
     match answer {
         Ok(()) => Err(Fail::new("not refused")),
-        Err(fault) => check_eq(fault.refusal(), Refusal { number, layer: Layer::Plan, place: 70 }),
+        Err(fault) => check_eq(
+            fault.refusal(),
+            Refusal {
+                number,
+                layer: Layer::Plan,
+                place: 70,
+            },
+        ),
     }
 }
 

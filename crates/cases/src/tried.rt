@@ -38,7 +38,14 @@ fn refuses(answer: Result<Option<u16>, QuestionFault>, task: u64) -> Result<(), 
     match answer {
         Ok(_) => Err(Fail::new("not refused")),
         Err(fault) => {
-            check_eq(fault.refusal(), Refusal { number: 17, layer: Layer::Plan, place: task })
+            check_eq(
+                fault.refusal(),
+                Refusal {
+                    number: 17,
+                    layer: Layer::Plan,
+                    place: task,
+                },
+            )
         }
     }
 }

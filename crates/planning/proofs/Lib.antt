@@ -5,3 +5,4 @@ pub mod Above
 pub mod RowLaws
 pub mod Judging
 pub mod Finishing
+pub mod WorkedPlans

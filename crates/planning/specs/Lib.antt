@@ -5,3 +5,4 @@ pub mod Orders
 pub mod Plans
 pub mod Rows
 pub mod Planning
+pub mod Worked

@@ -5,3 +5,4 @@
 pub mod fault;
 pub mod plan;
 pub mod rounds;
+mod worked;
