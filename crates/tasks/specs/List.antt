@@ -1,6 +1,7 @@
 -- Task lists, and what a row must keep to be added.
 --
 --   listed l, opened l      the tasks of a closed list, of an open list, in the order of their numbers
+--   taskIf ts k             task k of the tasks ts, if there is one
 --   taskAt l k              task k of the closed list l; past its end some task that keeps the limits
 --   Row, row t, rows ts     what there is to know of a task: name, preference as a number, cost, period
 --   newRow n p c q          the row that is handed in
@@ -10,7 +11,7 @@
 use mathlib.Core.Path.{_≡_, refl}
 use mathlib.Core.Bool.{cond, false}
 use mathlib.Core.List.{List, [], _∷_, _++_, map}
-use Prim.Native.Nat.{ℕ}
+use Prim.Native.Nat.{ℕ, zero, suc}
 use lib.Dec.{leb, ltb, eqb, lit≤}
 use lib.ListN.{length, take, getD, replicate}
 use Rattle.std.specs.Results.{Cases, isOk}
@@ -30,6 +31,11 @@ listed l = take (l .count) (l .tasks)
 
 abbrev pub opened : OpenList → List Task
 opened l = take (l .count) (l .tasks)
+
+abbrev pub taskIf : List Task → ℕ → Option Task
+taskIf [] k = None
+taskIf (t ∷ ts) zero = Some t
+taskIf (t ∷ ts) (suc k) = taskIf ts k
 
 -- a task that keeps the limits, for places past a list's end
 pub filler : Task

@@ -1,11 +1,9 @@
 // Adding tasks, closing a list, and reading it.
-ghost use Prim.Native.Nat.{_≤_};
-ghost use Rattle.std.specs.Options.{Cases as BySome};
 ghost use Rattle.std.specs.Results.{Cases};
 ghost use Rattle.std.specs.declared.option.Option.the-variants.{Some, None};
-ghost use Rattle.tasks.specs.List.{listed, opened, newRow, limitFault, Adds};
+ghost use Rattle.tasks.specs.List.{listed, opened, taskIf, newRow, limitFault, Adds};
 ghost use Rattle.tasks.specs.Task.{preferenceOf};
-ghost use lib.ListN.{length, getD};
+ghost use lib.ListN.{length};
 ghost use mathlib.Core.List.{[]};
 ghost use mathlib.Core.Path.{_≡_};
 use super::OpenList;
@@ -136,7 +134,7 @@ impl TaskList {
 
     // The task with this number, if it is listed.
     pub fn task(&self, number: usize) -> Option<Task>
-        ensures { λ r. ⌜ BySome r (length (listed (now (self .entry))) ≤ number) (λ t. t ≡ getD (listed (now (self .entry))) number t) ⌝ }
+        ensures { λ r. ⌜ r ≡ taskIf (listed (now (self .entry))) number ⌝ }
     {
         if number < self.count {
             Some(self.tasks[number])
