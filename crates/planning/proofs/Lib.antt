@@ -6,3 +6,4 @@ pub mod RowLaws
 pub mod Judging
 pub mod Finishing
 pub mod WorkedPlans
+pub mod SameRows

@@ -4,6 +4,7 @@
 --   answered t         the answer with the tally t: refused if a task is left over
 --   Written b l p      the plan p has the list, and the ranks and holds that the rounds gave
 --   Few l t            at most n(n+1)/2 questions were put
+--   RowsDecide l       every list with the rows of l comes to the same end by the exact test
 --   Whole l t          the tasks placed and the ones of the set left over are together n
 use mathlib.Core.Path.{_≡_}
 use mathlib.Core.Bool.{cond}
@@ -14,8 +15,9 @@ use lib.ListN.{length}
 use Rattle.std.specs.declared.option.Option.{Option}
 use Rattle.std.specs.declared.result.Result.{Result}
 use Rattle.std.specs.declared.result.Result.the-variants.{Ok, Err}
-use Rattle.tasks.specs.List.{listed}
+use Rattle.tasks.specs.List.{listed, rows}
 use Rattle.tasks.specs.declared.list.TaskList.{TaskList}
+use Rattle.analysis.specs.Response.{response}
 use Rattle.planning.specs.Rounds.{planned}
 use Rattle.planning.specs.declared.fault.PlanFault.{PlanFault}
 use Rattle.planning.specs.declared.fault.PlanFault.the-variants.{LeftOver}
@@ -42,3 +44,6 @@ Few l t = 2 * t .questions ≤ length (listed l) * (length (listed l) + 1)
 
 abbrev pub Whole : TaskList → Tally → Type 0
 Whole l t = t .placed + ones (t .left) ≡ length (listed l)
+
+abbrev pub RowsDecide : TaskList → Type 0
+RowsDecide l = (m : TaskList) → rows (listed m) ≡ rows (listed l) → planned (response m) m ≡ planned (response l) l

@@ -1,6 +1,6 @@
 // Planning a list: by any test, and by the exact test.
 ghost use Rattle.analysis.specs.Response.{response};
-ghost use Rattle.planning.specs.Planning.{tally as tallyOf, answered, Written, Few, Whole};
+ghost use Rattle.planning.specs.Planning.{tally as tallyOf, answered, Written, Few, Whole, RowsDecide};
 ghost use Rattle.planning.specs.Plans.{Fits};
 ghost use Rattle.std.specs.Results.{isOk};
 ghost use mathlib.Core.Bool.{true, false};
@@ -52,6 +52,7 @@ pub fn plan_exact(list: &TaskList, place: &mut Plan) -> Result<Tally, PlanFault>
     ensures untouched { λ r. ⌜ (isOk r ≡ false → now (place .exit) ≡ now (place .entry)) ⌝ }
     ensures judged_yes { λ r. ⌜ (isOk r ≡ true → Fits (now (place .exit))) ⌝ }
     ensures few_questions { λ _. ⌜ Few (now (list .entry)) (tallyOf (response (now (list .entry))) (now (list .entry))) ⌝ }
+    ensures rows_decide { λ _. ⌜ RowsDecide (now (list .entry)) ⌝ }
     ensures placed_and_left_are_all { λ _. ⌜ Whole (now (list .entry)) (tallyOf (response (now (list .entry))) (now (list .entry))) ⌝ }
 {
     plan(&ExactTest, list, place)

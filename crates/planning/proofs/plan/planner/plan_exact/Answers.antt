@@ -1,0 +1,15 @@
+use Rattle.planning.proofs.SameRows.{planned-same}
+use Rattle.planning.proofs.plan.planner.plan_exact.Needs as need
+
+pub returns : need.returns
+returns c =
+    let told = c .plan .ensures in
+    record {
+      answer = told .answer;
+      written = told .written;
+      untouched = told .untouched;
+      judged-yes = told .judged-yes;
+      few-questions = told .few-questions;
+      rows-decide = λ m e. planned-same m (c .args .list .now) e;
+      placed-and-left-are-all = told .placed-and-left-are-all;
+    }
