@@ -9,7 +9,7 @@ use native.Mathlib.Omega.{arith}
 use lib.Count.{ones}
 use lib.Dec.{eqb, ltb}
 use lib.ListN.{length, getD}
-use Rattle.std.proofs.shelf.Tests.{cases-lt, cases-bool, cond-true, cond-false, ltb-true, eq-eqb}
+use Rattle.std.proofs.shelf.Tests.{cases-lt, cases-bool, cond-true, cond-false, ltb-true, eq-eqb, ne-eqb}
 use Rattle.std.specs.declared.option.Option.{Option}
 use Rattle.std.specs.declared.option.Option.the-variants.{Some}
 use Rattle.std.specs.declared.result.Result.the-variants.{Ok, Err}
@@ -109,6 +109,10 @@ module _ (bound : ℕ → ℕ → Option ℕ) (l : TaskList) (d : Draft) (is : d
   pub answer-ok : (n : ℕ) → n ≡ length (listed l) → d .unplaced ≡ 0 → Ok (record { placed = n - ones (d .unplaced); questions = d .questions; left = d .unplaced }) ≡ answered (tally bound l)
   answer-ok n e none =
       ap Ok (tally-is n e) ∙ sym (cond-true (eqb (tally bound l .left) 0) (Ok (tally bound l)) (Err (LeftOver (tally bound l))) (eq-eqb _ 0 (ap (λ x. x .unplaced) (sym is) ∙ none)))
+
+  pub answer-left : (n : ℕ) → n ≡ length (listed l) → (d .unplaced ≡ 0 → ⊥) → Err (LeftOver (record { placed = n - ones (d .unplaced); questions = d .questions; left = d .unplaced })) ≡ answered (tally bound l)
+  answer-left n e some =
+      ap (λ t. Err (LeftOver t)) (tally-is n e) ∙ sym (cond-false (eqb (tally bound l .left) 0) (Ok (tally bound l)) (Err (LeftOver (tally bound l))) (ne-eqb _ 0 (λ z. some (ap (λ x. x .unplaced) is ∙ z))))
 
   pub tally-few : 2 * d .questions ≤ length (listed l) * (length (listed l) + 1) → Few l (tally bound l)
   tally-few h = omega (arith, ap (λ x. x .questions) is)

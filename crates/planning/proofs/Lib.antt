@@ -1,4 +1,5 @@
 pub mod Searching
+pub mod Choosing
 pub mod Placing
 pub mod GoingOn
 pub mod Above

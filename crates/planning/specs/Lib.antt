@@ -1,5 +1,6 @@
 pub mod Faults
 pub mod Rounds
+pub mod Choices
 pub mod Drafts
 pub mod Orders
 pub mod Plans

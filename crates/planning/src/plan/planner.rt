@@ -1,5 +1,6 @@
 // Planning a list: by any test, and by the exact test.
 ghost use Rattle.analysis.specs.Response.{response};
+ghost use Rattle.planning.specs.Choices.{RoundsByTheRules};
 ghost use Rattle.planning.specs.Planning.{tally as tallyOf, answered, Written, Few, Whole, RowsDecide};
 ghost use Rattle.planning.specs.Plans.{Fits};
 ghost use Rattle.std.specs.Results.{isOk};
@@ -18,6 +19,7 @@ use tasks::list::TaskList;
 // same tally, and `place` stays as it was.
 pub fn plan<T: Test>(test: &T, list: &TaskList, place: &mut Plan) -> Result<Tally, PlanFault>
     ensures answer { λ r. ⌜ r ≡ answered (tallyOf (bound (now (test .entry)) (now (list .entry))) (now (list .entry))) ⌝ }
+    ensures rounds_by_the_rules { λ _. ⌜ RoundsByTheRules (bound (now (test .entry)) (now (list .entry))) (now (list .entry)) ⌝ }
     ensures written { λ r. ⌜ (isOk r ≡ true → Written (bound (now (test .entry)) (now (list .entry))) (now (list .entry)) (now (place .exit))) ⌝ }
     ensures untouched { λ r. ⌜ (isOk r ≡ false → now (place .exit) ≡ now (place .entry)) ⌝ }
     ensures judged_yes { λ r. ⌜ (isOk r ≡ true → Fits (now (place .exit))) ⌝ }
@@ -48,6 +50,7 @@ pub fn plan<T: Test>(test: &T, list: &TaskList, place: &mut Plan) -> Result<Tall
 // Plans the list by the exact test.
 pub fn plan_exact(list: &TaskList, place: &mut Plan) -> Result<Tally, PlanFault>
     ensures answer { λ r. ⌜ r ≡ answered (tallyOf (response (now (list .entry))) (now (list .entry))) ⌝ }
+    ensures rounds_by_the_rules { λ _. ⌜ RoundsByTheRules (response (now (list .entry))) (now (list .entry)) ⌝ }
     ensures written { λ r. ⌜ (isOk r ≡ true → Written (response (now (list .entry))) (now (list .entry)) (now (place .exit))) ⌝ }
     ensures untouched { λ r. ⌜ (isOk r ≡ false → now (place .exit) ≡ now (place .entry)) ⌝ }
     ensures judged_yes { λ r. ⌜ (isOk r ≡ true → Fits (now (place .exit))) ⌝ }

@@ -1,7 +1,8 @@
 use mathlib.Core.Path.{refl, ap, sym}
 use native.Mathlib.Omega.{arith}
-use Rattle.std.proofs.shelf.Tests.{true≢false}
-use Rattle.planning.proofs.Finishing.{finished-ranked, finished-apart, finished-held, finished-prompt, finished-fits, answer-ok, tally-few, tally-whole}
+use Rattle.std.proofs.shelf.Tests.{true≢false, false≢true}
+use Rattle.planning.proofs.Choosing.{rounds-by-the-rules}
+use Rattle.planning.proofs.Finishing.{finished-ranked, finished-apart, finished-held, finished-prompt, finished-fits, answer-ok, answer-left, tally-few, tally-whole}
 use Rattle.planning.proofs.plan.planner.plan.Needs as need
 
 pub ghost-place : need.ghost-place
@@ -26,6 +27,22 @@ ghost-place g c =
       ),
     )
 
+pub returns-then-left-ne0 : need.returns-then-left-ne0
+returns-then-left-ne0 g c =
+    let l = c .args .list .now in
+    let bound = g .T·Test .bound (c .args .test .now) l in
+    let d = c .rounds-draft .result in
+    let ended = c .rounds-draft .ensures in
+    record {
+      answer = answer-left bound l d (ended .value) (c .len .result) (c .len .ensures) (c .if-left-ne0 .taken);
+      rounds-by-the-rules = rounds-by-the-rules bound l;
+      written = λ e. absurd (false≢true e);
+      untouched = λ _. refl;
+      judged-yes = λ e. absurd (false≢true e);
+      few-questions = tally-few bound l d (ended .value) (ended .few);
+      placed-and-left-are-all = tally-whole bound l d (ended .value) (ended .drafted .0) (ended .drafted .1);
+    }
+
 pub returns : need.returns
 returns g c =
     let l = c .args .list .now in
@@ -35,6 +52,7 @@ returns g c =
     let ended = c .rounds-draft .ensures in
     record {
       answer = answer-ok bound l d (ended .value) (c .len .result) (c .len .ensures) (c .if-left-ne0 .left);
+      rounds-by-the-rules = rounds-by-the-rules bound l;
       written = λ _. record { list = refl; ranks = ap (λ x. x .ranks) (ended .value); holds = ap (λ x. x .holds) (ended .value) };
       untouched = λ e. absurd (true≢false e);
       judged-yes = λ _. finished-fits bound _ (ended .drafted .0) d (ended .drafted .1) law refl refl (c .if-left-ne0 .left);

@@ -6,6 +6,7 @@ returns c =
     let told = c .plan .ensures in
     record {
       answer = told .answer;
+      rounds-by-the-rules = told .rounds-by-the-rules;
       written = told .written;
       untouched = told .untouched;
       judged-yes = told .judged-yes;
