@@ -1,6 +1,9 @@
 pub mod Heads
 pub mod Decodes
 pub mod Takes
+pub mod PlanRows
+pub mod PlanTakes
+pub mod PlanDecodes
 pub mod Texts
 pub mod Laid
 pub mod ReadsBack

@@ -2,6 +2,7 @@ pub mod Faults
 pub mod Format
 pub mod Reading
 pub mod Decoding
+pub mod PlanDecoding
 pub mod Text
 pub mod Printing
 pub mod Layout

@@ -35,7 +35,7 @@ pub const MAX_FILE: usize = 8_192;
 const END_SIZE: usize = 6;
 
 // Checks an end record at the place `at` that counts so many tasks.
-fn check_end(at: usize, count: u16, tasks: usize, size: usize) -> Result<(), ByteFault>
+pub(crate) fn check_end(at: usize, count: u16, tasks: usize, size: usize) -> Result<(), ByteFault>
     requires { ⌜ at ≤ size ⌝ }
     ensures { λ r. ⌜ Cases r (λ _. endFault size at tasks count ≡ None) (λ f. endFault size at tasks count ≡ Some f) ⌝ }
 {
