@@ -11,3 +11,6 @@ pub mod Reports
 pub mod Verdicts
 pub mod Encodes
 pub mod LaidOut
+pub mod PlanRules
+pub mod PlanReadsBack
+pub mod PlanEncodes

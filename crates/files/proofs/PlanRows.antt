@@ -28,7 +28,7 @@ rows-length [] hs e = refl
 rows-length (x ∷ xs) [] e = absurd (omega arith)
 rows-length (x ∷ xs) (y ∷ ys) e = ap suc (rows-length xs ys (omega arith))
 
-same-length : (m : ℕ) (rs hs : List ℕ) → m ≤ length rs → m ≤ length hs → length (take m rs) ≡ length (take m hs)
+pub same-length : (m : ℕ) (rs hs : List ℕ) → m ≤ length rs → m ≤ length hs → length (take m rs) ≡ length (take m hs)
 same-length m rs hs a b = length-take-le m rs a ∙ sym (length-take-le m hs b)
 
 pub below-length : (m : ℕ) (rs hs : List ℕ) → m ≤ length rs → m ≤ length hs → length (rowsBelow m rs hs) ≡ m

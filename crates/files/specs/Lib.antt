@@ -6,5 +6,6 @@ pub mod PlanDecoding
 pub mod Text
 pub mod Printing
 pub mod Layout
+pub mod PlanLayout
 pub mod Report
 pub mod Program

@@ -127,7 +127,7 @@ fn push_task(text: &mut Text, task: &Task)
 }
 
 // Puts the end record of a file with so many tasks behind the text.
-fn push_end(text: &mut Text, tasks: usize)
+pub(crate) fn push_end(text: &mut Text, tasks: usize)
     requires room { ⌜ length (written (now text)) + 6 ≤ 4096 ⌝ }
     requires few { ⌜ tasks ≤ 32 ⌝ }
     ensures { λ _. ⌜ written (now (text .exit)) ≡ written (now (text .entry)) ++ endRecord tasks ⌝ }

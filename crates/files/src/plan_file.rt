@@ -1,11 +1,16 @@
 // Reading and writing a plan file.
-ghost use Prim.Native.Nat.{_≤_};
+ghost use Prim.Native.Nat.{_+_, _<_, _≤_};
 ghost use Rattle.files.specs.Format.{view};
-ghost use Rattle.files.specs.PlanDecoding.{planRows, decodedPlan, TakesRow, ReadsPlan};
+ghost use Rattle.files.specs.PlanDecoding.{newPlanRow, planRows, decodedPlan, TakesRow, ReadsPlan};
+ghost use Rattle.files.specs.PlanLayout.{rowRecord, encodedPlan};
+ghost use Rattle.files.specs.Printing.{Writes};
+ghost use Rattle.files.specs.Text.{written};
+ghost use Rattle.planning.specs.Plans.{size, rankOf, heldFor};
 ghost use Rattle.std.specs.Results.{Cases};
 ghost use Rattle.std.specs.declared.result.Result.the-variants.{Ok, Err};
 ghost use Rattle.tasks.specs.List.{listed};
 ghost use lib.ListN.{length};
+ghost use mathlib.Core.List.{_++_};
 ghost use mathlib.Core.Path.{_≡_};
 use crate::fault::ByteFault;
 use crate::fault::PlanFileFault;
@@ -13,9 +18,14 @@ use crate::fault::calls::PlanFileFaultFromByte;
 use crate::fault::calls::PlanFileFaultFromRow;
 use crate::list_file::MAX_FILE;
 use crate::list_file::check_end;
+use crate::list_file::push_end;
 use crate::reader::Reader;
 use crate::record::FileKind;
+use crate::record::MARK_FIRST;
+use crate::record::MARK_SECOND;
+use crate::record::PLAN_ROW;
 use crate::record::Record;
+use crate::text::Text;
 use planning::plan::OpenPlan;
 use planning::plan::Plan;
 use tasks::list::TaskList;
@@ -75,4 +85,40 @@ pub fn read_plan(bytes: &[u8], list: &TaskList, place: &mut Plan) -> Result<(), 
 {
     *place = plan_in(bytes, list)?;
     Ok(())
+}
+
+// Puts the record of a listed task's row behind the text.
+fn push_row(text: &mut Text, plan: &Plan, task: usize)
+    requires listed { ⌜ task < size (now plan) ⌝ }
+    requires room { ⌜ length (written (now text)) + 8 ≤ 4096 ⌝ }
+    ensures { λ _. ⌜ written (now (text .exit)) ≡ written (now (text .entry)) ++ rowRecord task (newPlanRow (rankOf (now (plan .entry)) task) (heldFor (now (plan .entry)) task)) ⌝ }
+{
+    let rank = plan.rank(task).unwrap();
+    let hold = plan.hold(task).unwrap();
+    text.push(
+        &[
+            MARK_FIRST,
+            MARK_SECOND,
+            PLAN_ROW,
+            4,
+            task as u8,
+            rank,
+            (hold / 256) as u8,
+            (hold % 256) as u8,
+        ],
+    );
+}
+
+// Writes a plan file and answers its length. Refused, with nothing written, exactly if the buffer is shorter.
+pub fn write_plan(plan: &Plan, buffer: &mut [u8]) -> Result<usize, ByteFault>
+    ensures writes { λ r. ⌜ Writes (encodedPlan (planRows (now (plan .entry)))) (now (buffer .entry)) (now (buffer .exit)) r ⌝ }
+    ensures reads_back { λ _. ⌜ decodedPlan (now (plan .entry) .list) (encodedPlan (planRows (now (plan .entry)))) ≡ Ok (planRows (now (plan .entry))) ⌝ }
+{
+    let tasks = plan.list().len();
+    let mut text = Text::new();
+    for task in 0..tasks {
+        push_row(&mut text, plan, task);
+    }
+    push_end(&mut text, tasks);
+    text.copy_to(buffer)
 }
