@@ -14,3 +14,4 @@ pub mod LaidOut
 pub mod PlanRules
 pub mod PlanReadsBack
 pub mod PlanEncodes
+pub mod PlanLaidOut

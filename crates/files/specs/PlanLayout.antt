@@ -11,16 +11,22 @@
 --                     of tasks; a hold is below the task's deadline, and 0 for an ASAP task
 --   Fits i            a row, or a note that is not too long for its length to be one byte
 --   PlanFile l bs rs  bs is a plan file for the list l, and its rows are rs
+--   ReadsPlanFiles l bs new a     reading bs for l answers a, and is accepted exactly if bs is a plan file for l; the plan `new` then has its rows
 use mathlib.Core.Path.{_≡_}
+use mathlib.Core.Bool.{true}
 use mathlib.Core.List.{List, [], _∷_, _++_, map}
 use Prim.Native.Nat.{ℕ, suc, _≤_}
 use lib.ListN.{length}
 use Rattle.std.specs.shelf.Lists.{All}
+use Rattle.std.specs.Results.{isOk}
+use Rattle.std.specs.declared.result.Result.{Result}
 use Rattle.files.specs.Layout.{twoBytes, laid, noteRecord, endRecord}
-use Rattle.files.specs.PlanDecoding.{PlanRow}
+use Rattle.files.specs.PlanDecoding.{PlanRow, planRows}
+use Rattle.files.specs.declared.fault.PlanFileFault.{PlanFileFault}
 use Rattle.tasks.specs.List.{listed}
 use Rattle.tasks.specs.declared.list.TaskList.{TaskList}
 use Rattle.planning.specs.Orders.{Ranked, Apart, Held, Prompt}
+use Rattle.planning.specs.declared.plan.Plan.{Plan}
 
 abbrev pub rowBody : ℕ → PlanRow → List ℕ
 rowBody k r = k ∷ r .rank ∷ twoBytes (r .hold)
@@ -69,3 +75,7 @@ pub record PlanFile (l : TaskList) (bs : List ℕ) (rs : List PlanRow) : Type 0 
   pub rules : KeepsRules l rs
   pub bytes : bs ≡ itemsBytes 0 items ++ endRecord (length rs)
   pub short : length bs ≤ 8192
+
+pub record ReadsPlanFiles (l : TaskList) (bs : List ℕ) (new : Plan) (answer : Result (Unit {0}) PlanFileFault) : Type 0 where
+  pub only-files : isOk answer ≡ true → PlanFile l bs (planRows new)
+  pub all-files : (rs : List PlanRow) → PlanFile l bs rs → (isOk answer ≡ true) × (planRows new ≡ rs)

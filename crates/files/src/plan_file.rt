@@ -2,7 +2,7 @@
 ghost use Prim.Native.Nat.{_+_, _<_, _≤_};
 ghost use Rattle.files.specs.Format.{view};
 ghost use Rattle.files.specs.PlanDecoding.{newPlanRow, planRows, decodedPlan, TakesRow, ReadsPlan};
-ghost use Rattle.files.specs.PlanLayout.{rowRecord, encodedPlan};
+ghost use Rattle.files.specs.PlanLayout.{rowRecord, encodedPlan, ReadsPlanFiles};
 ghost use Rattle.files.specs.Printing.{Writes};
 ghost use Rattle.files.specs.Text.{written};
 ghost use Rattle.planning.specs.Plans.{size, rankOf, heldFor};
@@ -81,7 +81,8 @@ fn plan_in(bytes: &[u8], list: &TaskList) -> Result<Plan, PlanFileFault>
 
 // Reads a plan file for a list into the lent plan. A refusal leaves that as it was.
 pub fn read_plan(bytes: &[u8], list: &TaskList, place: &mut Plan) -> Result<(), PlanFileFault>
-    ensures { λ r. ⌜ ReadsPlan (now (list .entry)) (now (bytes .entry)) (now (place .entry)) (now (place .exit)) r ⌝ }
+    ensures reads { λ r. ⌜ ReadsPlan (now (list .entry)) (now (bytes .entry)) (now (place .entry)) (now (place .exit)) r ⌝ }
+    ensures reads_files { λ r. ⌜ ReadsPlanFiles (now (list .entry)) (now (bytes .entry)) (now (place .exit)) r ⌝ }
 {
     *place = plan_in(bytes, list)?;
     Ok(())
