@@ -32,17 +32,17 @@ use Rattle.tasks.specs.declared.list.TaskList.{TaskList}
 abbrev pub Bytes : List ℕ → Type 0
 Bytes bs = (i : ℕ) → getD bs i 0 < 256
 
-bytes-drop : (n : ℕ) (bs : List ℕ) → Bytes bs → Bytes (drop n bs)
+pub bytes-drop : (n : ℕ) (bs : List ℕ) → Bytes bs → Bytes (drop n bs)
 bytes-drop n bs h i = omega (arith, getD-drop n bs i 0, h (n + i))
 
-bytes-take : (n : ℕ) (bs : List ℕ) → Bytes bs → Bytes (take n bs)
+pub bytes-take : (n : ℕ) (bs : List ℕ) → Bytes bs → Bytes (take n bs)
 bytes-take n bs h i =
     ⊎-elim (λ (l : i < n). omega (arith, getD-take n bs i 0 l, h i))
     (λ (l : n ≤ i). omega (arith, getD-past (take n bs) i 0 (omega (arith, length-take n bs))))
     (cases-lt i n)
 
 -- each check that passed, of those of a task row
-passed : {F : Type 0} (b : Bool) (x : F) (o : Option F) → cond b (Some x) o ≡ None → (b ≡ false) × (o ≡ None)
+pub passed : {F : Type 0} (b : Bool) (x : F) (o : Option F) → cond b (Some x) o ≡ None → (b ≡ false) × (o ≡ None)
 passed true x o e = absurd (let z : _≡_ {A = ℕ} 0 1 = cc in omega arith)
 passed false x o e = (refl, e)
 
@@ -102,7 +102,7 @@ on-ok None (Ok mid) true more out h = (refl, (mid, refl, cc))
 on-ok None (Ok mid) false more out h = (refl, (mid, refl, h))
 
 -- a record without a fault is laid out as its kind and its body say
-relaid : (f : FileKind) (xs : List ℕ) → Sound f xs → xs ≡ laid (getD xs 2 0) (body xs) ++ drop (size xs) xs
+pub relaid : (f : FileKind) (xs : List ℕ) → Sound f xs → xs ≡ laid (getD xs 2 0) (body xs) ++ drop (size xs) xs
 relaid f [] s = absurd (omega (arith, s .long))
 relaid f (a ∷ []) s = absurd (omega (arith, s .long))
 relaid f (a ∷ b ∷ []) s = absurd (omega (arith, s .long))
@@ -113,10 +113,10 @@ relaid f (a ∷ b ∷ k ∷ d ∷ ys) s =
     let xs = a ∷ b ∷ k ∷ d ∷ ys in
     (λ i. eqb-true a 0xa7 (mark .0) i ∷ eqb-true b 0x5e (mark .1) i ∷ k ∷ sym (length-body xs (s .whole)) i ∷ (sym (take-append-drop d ys) ∙ ap (λ m. take d ys ++ drop m xs) (sym n)) i)
 
-high-back : (h l : ℕ) → l < 256 → h ≡ number h l / 256
+pub high-back : (h l : ℕ) → l < 256 → h ≡ number h l / 256
 high-back h l s = omega arith
 
-low-back : (h l : ℕ) → l < 256 → l ≡ number h l % 256
+pub low-back : (h l : ℕ) → l < 256 → l ≡ number h l % 256
 low-back h l s = omega arith
 
 -- the row that the body of a task record says
@@ -132,7 +132,7 @@ task-back (p ∷ c ∷ d ∷ q ∷ []) h l = absurd (omega arith)
 task-back (p ∷ c ∷ d ∷ q ∷ r ∷ name) h l =
     λ i. p ∷ high-back c d (h 2) i ∷ low-back c d (h 2) i ∷ high-back q r (h 4) i ∷ low-back q r (h 4) i ∷ name
 
-end-back : (b : List ℕ) → Bytes b → length b ≡ 2 → b ≡ twoBytes (number (getD b 0 0) (getD b 1 0))
+pub end-back : (b : List ℕ) → Bytes b → length b ≡ 2 → b ≡ twoBytes (number (getD b 0 0) (getD b 1 0))
 end-back [] h l = absurd (omega arith)
 end-back (c ∷ []) h l = absurd (omega arith)
 end-back (c ∷ d ∷ []) h l = λ i. high-back c d (h 1) i ∷ low-back c d (h 1) i ∷ []

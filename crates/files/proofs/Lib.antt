@@ -1,6 +1,9 @@
 pub mod Heads
 pub mod Decodes
 pub mod Takes
+pub mod PlanRows
+pub mod PlanTakes
+pub mod PlanDecodes
 pub mod Texts
 pub mod Laid
 pub mod ReadsBack
@@ -8,3 +11,7 @@ pub mod Reports
 pub mod Verdicts
 pub mod Encodes
 pub mod LaidOut
+pub mod PlanRules
+pub mod PlanReadsBack
+pub mod PlanEncodes
+pub mod PlanLaidOut

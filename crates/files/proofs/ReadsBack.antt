@@ -29,11 +29,11 @@ laid-read k b rest n bs at rs new s e kind fits says taken =
     ∙ ap (λ xs. leftOver (isEnd s) n bs (at + size xs) new) e
 
 -- what follows it
-rest-of : (k : ℕ) (b rest bs : List ℕ) (at : ℕ) → drop at bs ≡ laid k b ++ rest → drop (at + (4 + length b)) bs ≡ rest
+pub rest-of : (k : ℕ) (b rest bs : List ℕ) (at : ℕ) → drop at bs ≡ laid k b ++ rest → drop (at + (4 + length b)) bs ≡ rest
 rest-of k b rest bs at e = sym (drop-drop (4 + length b) at bs) ∙ ap (drop (4 + length b)) e ∙ drop-at (laid k b) rest (4 + length b) (omega arith)
 
 -- it has bytes of its own
-bytes-left : (k : ℕ) (b rest bs : List ℕ) (at : ℕ) → drop at bs ≡ laid k b ++ rest → length bs - at ≡ 4 + length b + length rest
+pub bytes-left : (k : ℕ) (b rest bs : List ℕ) (at : ℕ) → drop at bs ≡ laid k b ++ rest → length bs - at ≡ 4 + length b + length rest
 bytes-left k b rest bs at e = sym (length-drop at bs) ∙ ap length e ∙ omega (arith, length-append b rest)
 
 task-read : (r : Row) (rest : List ℕ) (n : ℕ) (bs : List ℕ) (at : ℕ) (rs : List Row) → drop at bs ≡ taskRecord r ++ rest → KeepsLimits r → length rs < 32 → decodedFrom (suc n) bs at rs ≡ decodedFrom n bs (at + (4 + length (taskBody r))) (rs ++ r ∷ [])

@@ -2,8 +2,10 @@ pub mod Faults
 pub mod Format
 pub mod Reading
 pub mod Decoding
+pub mod PlanDecoding
 pub mod Text
 pub mod Printing
 pub mod Layout
+pub mod PlanLayout
 pub mod Report
 pub mod Program

@@ -1,4 +1,7 @@
-// What can be wrong with the bytes of a file, and with a list file.
+// What can be wrong with the bytes of a file, with a list file and with a plan file.
+use planning::fault::RowFault;
+use planning::fault::RowFaultDebug;
+use planning::fault::RowFaultPartialEq;
 use tasks::fault::TaskFault;
 use tasks::fault::TaskFaultDebug;
 use tasks::fault::TaskFaultPartialEq;
@@ -23,4 +26,11 @@ pub enum ByteFault {
 pub enum ListFault {
     Bytes(ByteFault),
     Task(TaskFault),
+}
+
+// What is wrong with a plan file: its bytes, or one of its rows.
+#[derive(Clone, Copy, PartialEq, Eq, Debug)]
+pub enum PlanFileFault {
+    Bytes(ByteFault),
+    Row(RowFault),
 }

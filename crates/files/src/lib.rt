@@ -1,10 +1,11 @@
-// The bytes of files: reading a list file, writing one, and the line that a refusal prints.
+// The bytes of files: reading and writing list files and plan files, and the line that a refusal prints.
 //
 //     let mut list = OpenList::new().close();
 //     read_list(bytes, &mut list)?;
 
 pub mod fault;
 pub mod list_file;
+pub mod plan_file;
 pub mod print;
 pub mod program;
 pub mod reader;

@@ -35,7 +35,7 @@ pub const MAX_FILE: usize = 8_192;
 const END_SIZE: usize = 6;
 
 // Checks an end record at the place `at` that counts so many tasks.
-fn check_end(at: usize, count: u16, tasks: usize, size: usize) -> Result<(), ByteFault>
+pub(crate) fn check_end(at: usize, count: u16, tasks: usize, size: usize) -> Result<(), ByteFault>
     requires { ⌜ at ≤ size ⌝ }
     ensures { λ r. ⌜ Cases r (λ _. endFault size at tasks count ≡ None) (λ f. endFault size at tasks count ≡ Some f) ⌝ }
 {
@@ -127,7 +127,7 @@ fn push_task(text: &mut Text, task: &Task)
 }
 
 // Puts the end record of a file with so many tasks behind the text.
-fn push_end(text: &mut Text, tasks: usize)
+pub(crate) fn push_end(text: &mut Text, tasks: usize)
     requires room { ⌜ length (written (now text)) + 6 ≤ 4096 ⌝ }
     requires few { ⌜ tasks ≤ 32 ⌝ }
     ensures { λ _. ⌜ written (now (text .exit)) ≡ written (now (text .entry)) ++ endRecord tasks ⌝ }

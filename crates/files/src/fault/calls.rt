@@ -1,9 +1,12 @@
-// What the faults of files tell, and how the faults of the parts become those of a list file.
-ghost use Rattle.files.specs.Faults.{byteRefusal, listRefusal};
+// What the faults of files tell, and how the faults of the parts become those of a list file or of a plan file.
+ghost use Rattle.files.specs.Faults.{byteRefusal, listRefusal, planFileRefusal};
 ghost use Rattle.files.specs.declared.fault.ListFault.the-variants.{Bytes, Task};
+ghost use Rattle.files.specs.declared.fault.PlanFileFault.the-variants.{Bytes as PlanBytes, Row};
 ghost use mathlib.Core.Path.{_≡_};
 use super::ByteFault;
 use super::ListFault;
+use super::PlanFileFault;
+use planning::fault::RowFault;
 use tasks::fault::Layer;
 use tasks::fault::Refusal;
 use tasks::fault::TaskFault;
@@ -43,6 +46,18 @@ impl ListFault {
     }
 }
 
+impl PlanFileFault {
+    // Number, layer and place of the fault.
+    pub fn refusal(self) -> Refusal
+        ensures { λ r. ⌜ r ≡ planFileRefusal self ⌝ }
+    {
+        match self {
+            PlanFileFault::Bytes(fault) => fault.refusal(),
+            PlanFileFault::Row(fault) => fault.refusal(),
+        }
+    }
+}
+
 pub impl From<ByteFault> for ListFault as ListFaultFromByte {
     ghost converts = { λ f r. r ≡ Bytes f };
 
@@ -56,5 +71,21 @@ pub impl From<TaskFault> for ListFault as ListFaultFromTask {
 
     fn from(fault: TaskFault) -> ListFault {
         ListFault::Task(fault)
+    }
+}
+
+pub impl From<ByteFault> for PlanFileFault as PlanFileFaultFromByte {
+    ghost converts = { λ f r. r ≡ PlanBytes f };
+
+    fn from(fault: ByteFault) -> PlanFileFault {
+        PlanFileFault::Bytes(fault)
+    }
+}
+
+pub impl From<RowFault> for PlanFileFault as PlanFileFaultFromRow {
+    ghost converts = { λ f r. r ≡ Row f };
+
+    fn from(fault: RowFault) -> PlanFileFault {
+        PlanFileFault::Row(fault)
     }
 }

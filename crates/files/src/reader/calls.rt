@@ -24,23 +24,17 @@ fn rest_from(bytes: &[u8], at: usize) -> &[u8]
 fn head(file: FileKind, place: u64, bytes: &[u8]) -> Result<(u8, &[u8]), ByteFault>
     ensures { λ r. ⌜ ReadsHead file place (now (bytes .entry)) r ⌝ }
 {
-    let [first, second, kind, len, rest @ ..] = bytes else {
-        return Err(ByteFault::CutOff(place));
-    };
-    if *first != MARK_FIRST || *second != MARK_SECOND {
-        return Err(ByteFault::WrongMark(place));
+    match bytes {
+        [first, second, _, _, ..] if *first != MARK_FIRST || *second != MARK_SECOND => {
+            Err(ByteFault::WrongMark(place))
+        }
+        [_, _, kind, _, ..] if !file.has(*kind) => Err(ByteFault::WrongKind(place)),
+        [_, _, kind, len, ..] if !length_fits(*kind, *len) => Err(ByteFault::WrongLength(place)),
+        [_, _, kind, len, rest @ ..] if usize::from(*len) <= rest.len() => {
+            Ok((*kind, &rest[0..*len as usize]))
+        }
+        _ => Err(ByteFault::CutOff(place)),
     }
-    if !file.has(*kind) {
-        return Err(ByteFault::WrongKind(place));
-    }
-    if !length_fits(*kind, *len) {
-        return Err(ByteFault::WrongLength(place));
-    }
-    let len = *len as usize;
-    if rest.len() < len {
-        return Err(ByteFault::CutOff(place));
-    }
-    Ok((*kind, &rest[0..len]))
 }
 
 impl<'a> Reader<'a> {
