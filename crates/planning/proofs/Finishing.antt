@@ -1,7 +1,7 @@
 -- A draft with nothing unplaced is a plan, and what planning answers is its tally. That plan is judged yes: each task was placed with a bound below a set that has all
 -- tasks of greater rank, its demand below just those is met in that time too, so there is a response at most that bound, and the
 -- hold is what the bound leaves. Of the test only its second law is used. Assumes nothing.
-use mathlib.Core.Path.{_≡_, refl, sym, ap, _∙_}
+use mathlib.Core.Path.{_≡_, refl, sym, ap, subst, _∙_}
 use mathlib.Core.Bool.{Bool, true, false, cond}
 use mathlib.Core.Logic.{_⊎_, inl, inr, ⊎-elim}
 use Prim.Native.Nat.{ℕ, _+_, _-_, _*_, _^_, _≤_, _<_}
@@ -23,6 +23,7 @@ use Rattle.analysis.specs.Demand.{charge, deadline, demand}
 use Rattle.analysis.specs.Question.{Premises}
 use Rattle.analysis.proofs.DemandLaws.{demand-within, demand-some}
 use Rattle.analysis.proofs.ResponseLaws.{response-exists}
+use Rattle.planning.specs.Choices.{Stuck}
 use Rattle.planning.specs.Drafts.{rankIn, heldIn, WellPlaced, Drafted}
 use Rattle.planning.specs.Orders.{Ranked, Apart, Held, Prompt}
 use Rattle.planning.specs.Plans.{size, rankOf, heldFor, above, InTime, Fits}
@@ -116,6 +117,9 @@ module _ (bound : ℕ → ℕ → Option ℕ) (l : TaskList) (d : Draft) (is : d
 
   pub tally-few : 2 * d .questions ≤ length (listed l) * (length (listed l) + 1) → Few l (tally bound l)
   tally-few h = omega (arith, ap (λ x. x .questions) is)
+
+  pub tally-stuck : Stuck bound (d .unplaced) → Stuck bound (tally bound l .left)
+  tally-stuck stuck = subst (λ x. Stuck bound (x .unplaced)) is stuck
 
   pub tally-whole : (m : ℕ) → Drafted bound l m d → Whole l (tally bound l)
   tally-whole m s = omega (arith, s .sized, ap (λ x. ones (x .unplaced)) is)

@@ -7,6 +7,7 @@
 --   Chosen b l p U n o     o is the best of the eligible tasks below n, or none if there is none
 --   askedBelow l p U n     how many tasks below n are of U and have the preference p
 --   RoundAsks b l U q      q questions are put: about every ALAP task of U, and if none of them is eligible about every ASAP task too
+--   Stuck b U              no task of U has a bound below the others of U
 --   RoundsByTheRules b l   for every set U, a round of the definition chooses and asks so
 --   RoundChooses b l U o   o is the best of the eligible ALAP tasks; only if there is none, the best of the ASAP tasks; or none
 use mathlib.Core.Path.{_≡_}
@@ -61,3 +62,6 @@ pub record RoundAsks (bound : ℕ → ℕ → Option ℕ) (l : TaskList) (U q : 
 
 abbrev pub RoundsByTheRules : (ℕ → ℕ → Option ℕ) → TaskList → Type 0
 RoundsByTheRules bound l = (U : ℕ) → RoundChooses bound l U (round bound l U .best) × RoundAsks bound l U (round bound l U .questions)
+
+abbrev pub Stuck : (ℕ → ℕ → Option ℕ) → ℕ → Type 0
+Stuck bound U = (k x : ℕ) → bit U k ≡ 1 → bound (without U k) k ≡ Some x → ⊥

@@ -5,6 +5,7 @@ ghost use Rattle.planning.specs.Plans.{size, rankOf, heldFor, above as aboveOf
 ghost use Rattle.std.specs.Orderings.{Decides};
 ghost use Rattle.std.specs.declared.option.Option.the-variants.{Some, None};
 ghost use lib.Dec.{ltb};
+ghost use lib.ListN.{replicate};
 ghost use mathlib.Core.Bool.{cond};
 ghost use mathlib.Core.Path.{_≡_};
 use super::Plan;
@@ -17,7 +18,8 @@ use tasks::list::TaskList;
 impl Plan {
     // The plan of the list with no task.
     pub fn empty() -> Plan
-        ensures { λ r. ⌜ size r ≡ 0 ⌝ }
+        ensures empty { λ r. ⌜ size r ≡ 0 ⌝ }
+        ensures blank { λ r. ⌜ (r .ranks ≡ replicate 32 0) × (r .holds ≡ replicate 32 0) ⌝ }
     {
         let list = OpenList::new().close();
         let ranks = [0; 32];

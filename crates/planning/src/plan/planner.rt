@@ -1,6 +1,6 @@
 // Planning a list: by any test, and by the exact test.
 ghost use Rattle.analysis.specs.Response.{response};
-ghost use Rattle.planning.specs.Choices.{RoundsByTheRules};
+ghost use Rattle.planning.specs.Choices.{RoundsByTheRules, Stuck};
 ghost use Rattle.planning.specs.Planning.{tally as tallyOf, answered, Written, Few, Whole, RowsDecide};
 ghost use Rattle.planning.specs.Plans.{Fits};
 ghost use Rattle.std.specs.Results.{isOk};
@@ -23,6 +23,7 @@ pub fn plan<T: Test>(test: &T, list: &TaskList, place: &mut Plan) -> Result<Tall
     ensures written { λ r. ⌜ (isOk r ≡ true → Written (bound (now (test .entry)) (now (list .entry))) (now (list .entry)) (now (place .exit))) ⌝ }
     ensures untouched { λ r. ⌜ (isOk r ≡ false → now (place .exit) ≡ now (place .entry)) ⌝ }
     ensures judged_yes { λ r. ⌜ (isOk r ≡ true → Fits (now (place .exit))) ⌝ }
+    ensures left_over_have_no_bound { λ _. ⌜ Stuck (bound (now (test .entry)) (now (list .entry))) (tallyOf (bound (now (test .entry)) (now (list .entry))) (now (list .entry)) .left) ⌝ }
     ensures few_questions { λ _. ⌜ Few (now (list .entry)) (tallyOf (bound (now (test .entry)) (now (list .entry))) (now (list .entry))) ⌝ }
     ensures placed_and_left_are_all { λ _. ⌜ Whole (now (list .entry)) (tallyOf (bound (now (test .entry)) (now (list .entry))) (now (list .entry))) ⌝ }
 {
@@ -54,6 +55,7 @@ pub fn plan_exact(list: &TaskList, place: &mut Plan) -> Result<Tally, PlanFault>
     ensures written { λ r. ⌜ (isOk r ≡ true → Written (response (now (list .entry))) (now (list .entry)) (now (place .exit))) ⌝ }
     ensures untouched { λ r. ⌜ (isOk r ≡ false → now (place .exit) ≡ now (place .entry)) ⌝ }
     ensures judged_yes { λ r. ⌜ (isOk r ≡ true → Fits (now (place .exit))) ⌝ }
+    ensures left_over_have_no_bound { λ _. ⌜ Stuck (response (now (list .entry))) (tallyOf (response (now (list .entry))) (now (list .entry)) .left) ⌝ }
     ensures few_questions { λ _. ⌜ Few (now (list .entry)) (tallyOf (response (now (list .entry))) (now (list .entry))) ⌝ }
     ensures rows_decide { λ _. ⌜ RowsDecide (now (list .entry)) ⌝ }
     ensures placed_and_left_are_all { λ _. ⌜ Whole (now (list .entry)) (tallyOf (response (now (list .entry))) (now (list .entry))) ⌝ }

@@ -2,7 +2,7 @@
 ghost use Prim.Native.Nat.{_<_};
 ghost use Rattle.planning.specs.Rows.{usedBelow, rankFits, promptFits, holdFits, RowTaken, Closed};
 ghost use Rattle.tasks.specs.List.{listed};
-ghost use lib.ListN.{length};
+ghost use lib.ListN.{length, replicate};
 ghost use mathlib.Core.Path.{_≡_};
 use super::OpenPlan;
 use super::Plan;
@@ -25,6 +25,7 @@ impl OpenPlan {
     pub fn begin(list: &TaskList) -> OpenPlan
         ensures list { λ r. ⌜ r .list ≡ now (list .entry) ⌝ }
         ensures empty { λ r. ⌜ r .count ≡ 0 ⌝ }
+        ensures blank { λ r. ⌜ (r .ranks ≡ replicate 32 0) × (r .holds ≡ replicate 32 0) ⌝ }
     {
         let ranks = [0; 32];
         let holds = [0; 32];

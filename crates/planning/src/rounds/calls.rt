@@ -2,6 +2,7 @@
 ghost use Prim.Native.Nat.{ℕ, _+_, _*_, _<_, _≤_};
 ghost use Rattle.analysis.specs.Question.{Premises};
 ghost use Rattle.planning.specs.Rounds.{asks, candidate, considered, holdOf, placedIn, begun, planned};
+ghost use Rattle.planning.specs.Choices.{Stuck};
 ghost use Rattle.planning.specs.Drafts.{Drafted};
 ghost use Rattle.planning.specs.Rounds.{search as searchOf, round as roundOf};
 ghost use Rattle.tasks.specs.List.{listed, taskAt};
@@ -153,6 +154,7 @@ impl Draft {
 pub(crate) fn rounds<T: Test>(test: &T, list: &TaskList) -> Draft
     ensures value { λ r. ⌜ r ≡ planned (bound (now (test .entry)) (now (list .entry))) (now (list .entry)) ⌝ }
     ensures drafted { λ r. ⌜ ((m : ℕ) × Drafted (bound (now (test .entry)) (now (list .entry))) (now (list .entry)) m r) ⌝ }
+    ensures stuck { λ r. ⌜ Stuck (bound (now (test .entry)) (now (list .entry))) (r .unplaced) ⌝ }
     ensures few { λ r. ⌜ 2 * r .questions ≤ length (listed (now (list .entry))) * (length (listed (now (list .entry))) + 1) ⌝ }
 {
     let mut draft = Draft::begin(list);

@@ -2,7 +2,7 @@ use mathlib.Core.Path.{refl, ap, sym}
 use native.Mathlib.Omega.{arith}
 use Rattle.std.proofs.shelf.Tests.{true≢false, false≢true}
 use Rattle.planning.proofs.Choosing.{rounds-by-the-rules}
-use Rattle.planning.proofs.Finishing.{finished-ranked, finished-apart, finished-held, finished-prompt, finished-fits, answer-ok, answer-left, tally-few, tally-whole}
+use Rattle.planning.proofs.Finishing.{finished-ranked, finished-apart, finished-held, finished-prompt, finished-fits, answer-ok, answer-left, tally-few, tally-whole, tally-stuck}
 use Rattle.planning.proofs.plan.planner.plan.Needs as need
 
 pub ghost-place : need.ghost-place
@@ -39,6 +39,7 @@ returns-then-left-ne0 g c =
       written = λ e. absurd (false≢true e);
       untouched = λ _. refl;
       judged-yes = λ e. absurd (false≢true e);
+      left-over-have-no-bound = tally-stuck bound l d (ended .value) (ended .stuck);
       few-questions = tally-few bound l d (ended .value) (ended .few);
       placed-and-left-are-all = tally-whole bound l d (ended .value) (ended .drafted .0) (ended .drafted .1);
     }
@@ -56,6 +57,7 @@ returns g c =
       written = λ _. record { list = refl; ranks = ap (λ x. x .ranks) (ended .value); holds = ap (λ x. x .holds) (ended .value) };
       untouched = λ e. absurd (true≢false e);
       judged-yes = λ _. finished-fits bound _ (ended .drafted .0) d (ended .drafted .1) law refl refl (c .if-left-ne0 .left);
+      left-over-have-no-bound = tally-stuck bound l d (ended .value) (ended .stuck);
       few-questions = tally-few bound l d (ended .value) (ended .few);
       placed-and-left-are-all = tally-whole bound l d (ended .value) (ended .drafted .0) (ended .drafted .1);
     }

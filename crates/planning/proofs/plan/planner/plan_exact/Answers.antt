@@ -10,6 +10,7 @@ returns c =
       written = told .written;
       untouched = told .untouched;
       judged-yes = told .judged-yes;
+      left-over-have-no-bound = told .left-over-have-no-bound;
       few-questions = told .few-questions;
       rows-decide = λ m e. planned-same m (c .args .list .now) e;
       placed-and-left-are-all = told .placed-and-left-are-all;

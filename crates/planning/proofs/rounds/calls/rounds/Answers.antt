@@ -16,7 +16,7 @@ add-draft g c = record { fits = going-fits _ _ _ _ (c .loop-placed .inv) _ (c .r
 pub returns-in-rest : need.returns-in-rest
 returns-in-rest g c =
     let ended = going-ended _ _ _ _ (c .loop-placed .inv) (c .round-found .result) (omega arith) (c .round-found .ensures) (c .in-rest .is) in
-    record { value = ended .value; drafted = ended .drafted; few = ended .few }
+    record { value = ended .value; drafted = ended .drafted; stuck = ended .stuck; few = ended .few }
 
 pub place-requires : need.place-requires
 place-requires g c κs =
@@ -31,4 +31,4 @@ loop-placed-again g c =
 pub returns : need.returns
 returns g c =
     let ended = going-all _ _ _ _ (c .loop-placed .inv) (omega arith) in
-    record { value = ended .value; drafted = ended .drafted; few = ended .few }
+    record { value = ended .value; drafted = ended .drafted; stuck = ended .stuck; few = ended .few }
