@@ -1,0 +1,4 @@
+pub mod Inserting
+pub mod Removing
+pub mod Laying
+pub mod Holding
