@@ -2,3 +2,4 @@ pub mod Inserting
 pub mod Removing
 pub mod Laying
 pub mod Holding
+pub mod Ordering

@@ -1,6 +1,10 @@
 // Making a queue, putting elements in, and taking them out.
 ghost use Rattle.queue.specs.Queues.{memory, held, first, Made, Takes, Puts};
-ghost use Rattle.queue.specs.Sequences.{dropOne, holds};
+ghost use Rattle.queue.specs.Sequences.{dropOne, holds, Ascending};
+ghost use Rattle.std.specs.Results.{isOk};
+ghost use Rattle.std.specs.Slices.{Shuffled};
+ghost use mathlib.Core.Bool.{true};
+ghost use mathlib.Core.List.{_∷_};
 ghost use lib.ListN.{length, drop};
 ghost use mathlib.Core.Path.{_≡_};
 use super::Queue;
@@ -48,7 +52,9 @@ impl<'a, T: Ordered> Queue<'a, T> {
 
     // Puts an element in behind those that are at most it. Refused exactly if the memory is full.
     pub fn put(&mut self, new: T) -> Result<(), QueueFault>
-        ensures { λ r. ⌜ Puts le new (now (self .entry)) (now (self .exit)) r ⌝ }
+        ensures puts { λ r. ⌜ Puts le new (now (self .entry)) (now (self .exit)) r ⌝ }
+        ensures stays_sorted { λ _. ⌜ (Ascending le (held (now (self .entry))) → Ascending le (held (now (self .exit)))) ⌝ }
+        ensures one_more { λ r. ⌜ (isOk r ≡ true → Shuffled (new ∷ held (now (self .entry))) (held (now (self .exit)))) ⌝ }
     {
         let count = self.len();
         let room = self.places.len();
@@ -64,6 +70,7 @@ impl<'a, T: Ordered> Queue<'a, T> {
     pub fn take_front(&mut self) -> Option<T>
         ensures first { λ r. ⌜ r ≡ first (held (now (self .entry))) ⌝ }
         ensures rest { λ _. ⌜ Takes (drop 1 (held (now (self .entry)))) (now (self .entry)) (now (self .exit)) ⌝ }
+        ensures stays_sorted { λ _. ⌜ (Ascending le (held (now (self .entry))) → Ascending le (held (now (self .exit)))) ⌝ }
     {
         let front = self.front();
         let count = self.len();
@@ -80,6 +87,8 @@ impl<'a, T: Ordered> Queue<'a, T> {
     pub fn take_out(&mut self, wanted: T) -> bool
         ensures found { λ r. ⌜ r ≡ holds le wanted (held (now (self .entry))) ⌝ }
         ensures rest { λ _. ⌜ Takes (dropOne le wanted (held (now (self .entry)))) (now (self .entry)) (now (self .exit)) ⌝ }
+        ensures stays_sorted { λ _. ⌜ (Ascending le (held (now (self .entry))) → Ascending le (held (now (self .exit)))) ⌝ }
+        ensures one_fewer { λ r. ⌜ (r ≡ true → Shuffled (held (now (self .entry))) (wanted ∷ held (now (self .exit)))) ⌝ }
     {
         let count = self.len();
         let found = take_from(self.places, count, wanted);
