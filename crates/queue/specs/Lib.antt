@@ -1,3 +1,4 @@
 pub mod Faults
 pub mod Sequences
 pub mod Queues
+pub mod Entries

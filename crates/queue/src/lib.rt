@@ -4,6 +4,7 @@
 //     let mut queue = Queue::new(&mut places);
 //     queue.put(Ready { rank: 3, task: 1 })?;
 
+pub mod entries;
 pub mod fault;
 mod line;
 pub mod order;
