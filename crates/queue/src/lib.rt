@@ -6,6 +6,7 @@
 
 pub mod entries;
 pub mod fault;
+mod lent;
 mod line;
 pub mod order;
 pub mod queue;

@@ -5,6 +5,7 @@ ghost use Rattle.std.specs.Results.{isOk};
 ghost use Rattle.std.specs.Slices.{Shuffled};
 ghost use mathlib.Core.Bool.{true};
 ghost use mathlib.Core.List.{_∷_};
+ghost use denote.Ref.{name};
 ghost use lib.ListN.{length, drop};
 ghost use mathlib.Core.Path.{_≡_};
 use super::Queue;
@@ -17,14 +18,16 @@ use crate::order::Ordered;
 impl<'a, T: Ordered> Queue<'a, T> {
     // A queue with no element over the lent memory.
     pub fn new(places: &'a mut [T]) -> Queue<'a, T>
-        ensures { λ r. ⌜ Made r (now (places .entry)) 0 ⌝ }
+        ensures made { λ r. ⌜ Made r (now (places .entry)) 0 ⌝ }
+        ensures lender { λ r. ⌜ name (r .places) ≡ name (places .entry) ⌝ }
     {
         Queue { places, count: 0 }
     }
 
     // A queue that holds the first `count` elements of the lent memory, or all of it where it has fewer.
     pub fn holding(places: &'a mut [T], count: usize) -> Queue<'a, T>
-        ensures { λ r. ⌜ Made r (now (places .entry)) count ⌝ }
+        ensures made { λ r. ⌜ Made r (now (places .entry)) count ⌝ }
+        ensures lender { λ r. ⌜ name (r .places) ≡ name (places .entry) ⌝ }
     {
         let most = places.len();
         Queue {
