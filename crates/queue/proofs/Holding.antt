@@ -8,8 +8,7 @@ use native.Mathlib.Omega.{arith}
 use lib.ListN.{length, getD, take, length-take}
 use Rattle.std.specs.declared.option.Option.the-variants.{Some, None}
 use Rattle.std.proofs.shelf.Tests.{cases-bool, cond-true, cond-false}
-use Rattle.queue.specs.Queues.{first}
-use Rattle.queue.specs.Sequences.{insertion, isSame, dropOne, holds}
+use Rattle.queue.specs.Sequences.{first, insertion, isSame, dropOne, holds}
 
 pub take-held : {T : Type 0} (n : ℕ) (xs : List T) → take (length (take n xs)) xs ≡ take n xs
 take-held zero xs = refl

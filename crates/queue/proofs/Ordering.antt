@@ -33,10 +33,10 @@ module _ {T : Type 0} (le : T → T → Bool) where
   insertion-shuffles x (e ∷ es) =
       ⊎-elim
       (λ (t : le e x ≡ true).
-          subst (Shuffled (x ∷ e ∷ es)) (sym (cond-true (le e x) (e ∷ insertion le x es) (x ∷ e ∷ es) t))
-          (shuffled-trans (x ∷ e ∷ es) (e ∷ x ∷ es) (e ∷ insertion le x es) (swapped x e es) (shuffled-cons e (x ∷ es) (insertion le x es) (insertion-shuffles x es))))
+      subst (Shuffled (x ∷ e ∷ es)) (sym (cond-true (le e x) (e ∷ insertion le x es) (x ∷ e ∷ es) t))
+      (shuffled-trans (x ∷ e ∷ es) (e ∷ x ∷ es) (e ∷ insertion le x es) (swapped x e es) (shuffled-cons e (x ∷ es) (insertion le x es) (insertion-shuffles x es))))
       (λ (f : le e x ≡ false).
-          subst (Shuffled (x ∷ e ∷ es)) (sym (cond-false (le e x) (e ∷ insertion le x es) (x ∷ e ∷ es) f)) (shuffled-refl (x ∷ e ∷ es)))
+      subst (Shuffled (x ∷ e ∷ es)) (sym (cond-false (le e x) (e ∷ insertion le x es) (x ∷ e ∷ es) f)) (shuffled-refl (x ∷ e ∷ es)))
       (cases-bool (le e x))
 
   module _ (any : (x y : T) → le x y ≡ false → le y x ≡ true) where
@@ -46,11 +46,11 @@ module _ {T : Type 0} (le : T → T → Bool) where
     behind e x (f ∷ es) t up in-order =
         ⊎-elim
         (λ (u : le f x ≡ true).
-            let is = cond-true (le f x) (f ∷ insertion le x es) (x ∷ f ∷ es) u in
-            subst (λ r. Ascending le (e ∷ r)) (sym is) (up .0, subst (Ascending le) is in-order))
+        let is = cond-true (le f x) (f ∷ insertion le x es) (x ∷ f ∷ es) u in
+        subst (λ r. Ascending le (e ∷ r)) (sym is) (up .0, subst (Ascending le) is in-order))
         (λ (v : le f x ≡ false).
-            let is = cond-false (le f x) (f ∷ insertion le x es) (x ∷ f ∷ es) v in
-            subst (λ r. Ascending le (e ∷ r)) (sym is) (t, subst (Ascending le) is in-order))
+        let is = cond-false (le f x) (f ∷ insertion le x es) (x ∷ f ∷ es) v in
+        subst (λ r. Ascending le (e ∷ r)) (sym is) (t, subst (Ascending le) is in-order))
         (cases-bool (le f x))
 
     pub insertion-ascends : (x : T) (es : List T) → Ascending le es → Ascending le (insertion le x es)
@@ -58,9 +58,9 @@ module _ {T : Type 0} (le : T → T → Bool) where
     insertion-ascends x (e ∷ es) up =
         ⊎-elim
         (λ (t : le e x ≡ true).
-            subst (Ascending le) (sym (cond-true (le e x) (e ∷ insertion le x es) (x ∷ e ∷ es) t)) (behind e x es t up (insertion-ascends x es (tail-ascends e es up))))
+        subst (Ascending le) (sym (cond-true (le e x) (e ∷ insertion le x es) (x ∷ e ∷ es) t)) (behind e x es t up (insertion-ascends x es (tail-ascends e es up))))
         (λ (f : le e x ≡ false).
-            subst (Ascending le) (sym (cond-false (le e x) (e ∷ insertion le x es) (x ∷ e ∷ es) f)) (any e x f, up))
+        subst (Ascending le) (sym (cond-false (le e x) (e ∷ insertion le x es) (x ∷ e ∷ es) f)) (any e x f, up))
         (cases-bool (le e x))
 
   -- ---- one fewer
@@ -76,14 +76,14 @@ module _ {T : Type 0} (le : T → T → Bool) where
     removal-shuffles x (e ∷ es) h =
         ⊎-elim
         (λ (t : isSame le e x ≡ true).
-            let parts = and-parts (le e x) (le x e) t in
-            let equal : e ≡ x = same e x (parts .0) (parts .1) in
-            subst (λ r. Shuffled (e ∷ es) (x ∷ r)) (sym (cond-true (isSame le e x) es (e ∷ dropOne le x es) t))
-            (subst (λ y. Shuffled (e ∷ es) (y ∷ es)) equal (shuffled-refl (e ∷ es))))
+        let parts = and-parts (le e x) (le x e) t in
+        let equal : e ≡ x = same e x (parts .0) (parts .1) in
+        subst (λ r. Shuffled (e ∷ es) (x ∷ r)) (sym (cond-true (isSame le e x) es (e ∷ dropOne le x es) t))
+        (subst (λ y. Shuffled (e ∷ es) (y ∷ es)) equal (shuffled-refl (e ∷ es))))
         (λ (f : isSame le e x ≡ false).
-            let later : holds le x es ≡ true = sym (cond-false (isSame le e x) true (holds le x es) f) ∙ h in
-            subst (λ r. Shuffled (e ∷ es) (x ∷ r)) (sym (cond-false (isSame le e x) es (e ∷ dropOne le x es) f))
-            (shuffled-trans (e ∷ es) (e ∷ x ∷ dropOne le x es) (x ∷ e ∷ dropOne le x es) (shuffled-cons e es (x ∷ dropOne le x es) (removal-shuffles x es later)) (swapped e x (dropOne le x es))))
+        let later : holds le x es ≡ true = sym (cond-false (isSame le e x) true (holds le x es) f) ∙ h in
+        subst (λ r. Shuffled (e ∷ es) (x ∷ r)) (sym (cond-false (isSame le e x) es (e ∷ dropOne le x es) f))
+        (shuffled-trans (e ∷ es) (e ∷ x ∷ dropOne le x es) (x ∷ e ∷ dropOne le x es) (shuffled-cons e es (x ∷ dropOne le x es) (removal-shuffles x es later)) (swapped e x (dropOne le x es))))
         (cases-bool (isSame le e x))
 
   module _ (over : (x y z : T) → le x y ≡ true → le y z ≡ true → le x z ≡ true) where
@@ -97,10 +97,10 @@ module _ {T : Type 0} (le : T → T → Bool) where
     bridged e x (f ∷ es) up in-order =
         ⊎-elim
         (λ (t : isSame le f x ≡ true).
-            subst (λ r. Ascending le (e ∷ r)) (sym (cond-true (isSame le f x) es (f ∷ dropOne le x es) t)) (skip e f es up))
+        subst (λ r. Ascending le (e ∷ r)) (sym (cond-true (isSame le f x) es (f ∷ dropOne le x es) t)) (skip e f es up))
         (λ (v : isSame le f x ≡ false).
-            let is = cond-false (isSame le f x) es (f ∷ dropOne le x es) v in
-            subst (λ r. Ascending le (e ∷ r)) (sym is) (up .0, subst (Ascending le) is in-order))
+        let is = cond-false (isSame le f x) es (f ∷ dropOne le x es) v in
+        subst (λ r. Ascending le (e ∷ r)) (sym is) (up .0, subst (Ascending le) is in-order))
         (cases-bool (isSame le f x))
 
     pub removal-ascends : (x : T) (es : List T) → Ascending le es → Ascending le (dropOne le x es)
@@ -109,7 +109,7 @@ module _ {T : Type 0} (le : T → T → Bool) where
         ⊎-elim
         (λ (t : isSame le e x ≡ true). subst (Ascending le) (sym (cond-true (isSame le e x) es (e ∷ dropOne le x es) t)) (tail-ascends e es up))
         (λ (f : isSame le e x ≡ false).
-            subst (Ascending le) (sym (cond-false (isSame le e x) es (e ∷ dropOne le x es) f)) (bridged e x es up (removal-ascends x es (tail-ascends e es up))))
+        subst (Ascending le) (sym (cond-false (isSame le e x) es (e ∷ dropOne le x es) f)) (bridged e x es up (removal-ascends x es (tail-ascends e es up))))
         (cases-bool (isSame le e x))
 
 -- ---- on the queue

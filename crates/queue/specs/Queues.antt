@@ -2,19 +2,16 @@
 --
 --   memory q               every place of the lent memory
 --   held q                 the elements of the queue q, first to last
---   first es               the first of es, if there is one
 --   Made q xs n            the queue q lies over the memory xs and holds its first n elements
 --   Puts le x old new a    putting x in answers a and turns the queue `old` into `new`
 --   Takes es old new       the queue `old` becomes `new`, which holds es; every place past them is as it was
 use mathlib.Core.Path.{_≡_}
 use mathlib.Core.Bool.{Bool}
-use mathlib.Core.List.{List, [], _∷_}
+use mathlib.Core.List.{List}
 use Prim.Native.Nat.{ℕ, min, _≤_, _<_}
 use denote.Ref.{now, name}
 use lib.ListN.{length, take}
 use Rattle.std.specs.Results.{Cases}
-use Rattle.std.specs.declared.option.Option.{Option}
-use Rattle.std.specs.declared.option.Option.the-variants.{Some, None}
 use Rattle.std.specs.declared.result.Result.{Result}
 use Rattle.queue.specs.Sequences.{insertion, laid}
 use Rattle.queue.specs.declared.fault.QueueFault.{QueueFault}
@@ -26,10 +23,6 @@ memory q = now (q .places)
 
 abbrev pub held : {T : Type 0} → Queue T → List T
 held q = take (q .count) (now (q .places))
-
-abbrev pub first : {T : Type 0} → List T → Option T
-first [] = None
-first (e ∷ es) = Some e
 
 pub record Made {T : Type 0} (q : Queue T) (xs : List T) (n : ℕ) : Type 0 where
   pub over : memory q ≡ xs

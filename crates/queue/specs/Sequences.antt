@@ -1,5 +1,6 @@
 -- Sequences of elements under an order `le`, and memory that holds them.
 --
+--   first es              the first of es, if there is one
 --   insertion le x es     es with x put before the first element that is not at most x
 --   dropOne le x es       es without its first element equal to x
 --   holds le x es         one of es is equal to x
@@ -13,6 +14,10 @@ use Prim.Native.Nat.{ℕ, _+_, _<_}
 use lib.ListN.{length, take, drop}
 use Rattle.std.specs.declared.option.Option.{Option}
 use Rattle.std.specs.declared.option.Option.the-variants.{Some, None}
+
+abbrev pub first : {T : Type 0} → List T → Option T
+first [] = None
+first (e ∷ es) = Some e
 
 abbrev pub insertion : {T : Type 0} → (T → T → Bool) → T → List T → List T
 insertion le x [] = x ∷ []

@@ -1,5 +1,6 @@
 // The steps of a queue over plain memory: the first `count` places hold the elements.
 ghost use Prim.Native.Nat.{_+_, _-_, _≤_, _<_};
+ghost use Rattle.queue.specs.Sequences.{first};
 ghost use Rattle.queue.specs.Sequences.{insertion, isSame, dropOne, holds, laid, Finds};
 ghost use lib.ListN.{length, take, drop};
 ghost use mathlib.Core.List.{_∷_, _++_};
@@ -61,6 +62,17 @@ fn place_of<T: Ordered>(places: &[T], count: usize, wanted: T) -> Option<usize>
         }
     }
     None
+}
+
+// The first of the first `count` elements, if there is one.
+pub(crate) fn first_of<T: Ordered>(places: &[T], count: usize) -> Option<T>
+    requires { ⌜ count ≤ length (now places) ⌝ }
+    ensures { λ r. ⌜ r ≡ first (take count (now (places .entry))) ⌝ }
+{
+    if count == 0 {
+        return None;
+    }
+    Some(places[0])
 }
 
 // Puts the new element in its place among the first `count`, which leave room for it.

@@ -1,6 +1,6 @@
 // Making a queue, putting elements in, and taking them out.
-ghost use Rattle.queue.specs.Queues.{memory, held, first, Made, Takes, Puts};
-ghost use Rattle.queue.specs.Sequences.{dropOne, holds, Ascending};
+ghost use Rattle.queue.specs.Queues.{held, Made, Takes, Puts};
+ghost use Rattle.queue.specs.Sequences.{first, dropOne, holds, Ascending};
 ghost use Rattle.std.specs.Results.{isOk};
 ghost use Rattle.std.specs.Slices.{Shuffled};
 ghost use mathlib.Core.Bool.{true};
@@ -11,6 +11,7 @@ ghost use mathlib.Core.Path.{_≡_};
 use super::Queue;
 use crate::fault::QueueFault;
 use crate::line::drop_front;
+use crate::line::first_of;
 use crate::line::put_in;
 use crate::line::take_from;
 use crate::order::Ordered;
@@ -47,10 +48,8 @@ impl<'a, T: Ordered> Queue<'a, T> {
     pub fn front(&self) -> Option<T>
         ensures { λ r. ⌜ r ≡ first (held (now (self .entry))) ⌝ }
     {
-        if self.len() == 0 {
-            return None;
-        }
-        Some(self.places[0])
+        let count = self.len();
+        first_of(self.places, count)
     }
 
     // Puts an element in behind those that are at most it. Refused exactly if the memory is full.
