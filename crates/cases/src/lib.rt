@@ -7,6 +7,8 @@ mod planned;
 #[cfg(test)]
 mod plans;
 #[cfg(test)]
+mod queues;
+#[cfg(test)]
 mod refusals;
 #[cfg(test)]
 mod rows;

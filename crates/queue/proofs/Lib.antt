@@ -1,0 +1,5 @@
+pub mod Inserting
+pub mod Removing
+pub mod Laying
+pub mod Holding
+pub mod Ordering

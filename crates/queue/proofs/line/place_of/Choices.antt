@@ -1,0 +1,7 @@
+-- None of the elements before this one is equal to the wanted one.
+use lib.ListN.{take}
+use Rattle.queue.proofs.Removing.{Passed}
+use Rattle.queue.proofs.line.place_of.Given as given
+
+abbrev pub Inv-loop-k : given.InvT-loop-k
+Inv-loop-k g l = Passed (g .T·Ordered .le) (l .wanted) (take (l .count) (l .places)) (l .k)

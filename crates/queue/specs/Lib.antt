@@ -1,0 +1,4 @@
+pub mod Faults
+pub mod Sequences
+pub mod Queues
+pub mod Entries
