@@ -5,7 +5,7 @@ ghost use Rattle.files.specs.PlanDecoding.{newPlanRow, planRows, decodedPlan, 
 ghost use Rattle.files.specs.PlanLayout.{rowRecord, encodedPlan, ReadsPlanFiles};
 ghost use Rattle.files.specs.Printing.{Writes};
 ghost use Rattle.files.specs.Text.{written};
-ghost use Rattle.planning.specs.Plans.{size, rankOf, heldFor};
+ghost use Rattle.planning.specs.Plans.{size as sizeOf, rankOf, heldFor};
 ghost use Rattle.std.specs.Results.{Cases};
 ghost use Rattle.std.specs.declared.result.Result.the-variants.{Ok, Err};
 ghost use Rattle.tasks.specs.List.{listed};
@@ -90,7 +90,7 @@ pub fn read_plan(bytes: &[u8], list: &TaskList, place: &mut Plan) -> Result<(), 
 
 // Puts the record of a listed task's row behind the text.
 fn push_row(text: &mut Text, plan: &Plan, task: usize)
-    requires listed { ⌜ task < size (now plan) ⌝ }
+    requires listed { ⌜ task < sizeOf (now plan) ⌝ }
     requires room { ⌜ length (written (now text)) + 8 ≤ 4096 ⌝ }
     ensures { λ _. ⌜ written (now (text .exit)) ≡ written (now (text .entry)) ++ rowRecord task (newPlanRow (rankOf (now (plan .entry)) task) (heldFor (now (plan .entry)) task)) ⌝ }
 {
