@@ -1,7 +1,11 @@
 // Examples of lists, tests, plans and whole files, each worked out by hand from the rules in docs/.
 
 #[cfg(test)]
+mod list_files;
+#[cfg(test)]
 mod lists;
+#[cfg(test)]
+mod plan_files;
 #[cfg(test)]
 mod planned;
 #[cfg(test)]
