@@ -60,3 +60,42 @@ fn longest_file() -> Result<(), Fail> {
     fill(&mut file);
     plans(&file, b"task rank bound hold\ntests 0\n")
 }
+
+// Writes 32 task records of ten bytes each, and the end record.
+fn fill_tasks(file: &mut [u8]) {
+    for k in 0..32 {
+        put(file, 10 * k, b"\xa7\x5e\x01\x06\x00\x00\x01\x00\x50a");
+    }
+    put(file, 320, b"\xa7\x5e\x03\x02\x00\x20");
+}
+
+// As many tasks as a list takes.
+#[test]
+fn full_file() -> Result<(), Fail> {
+    let mut file = [0u8; 326];
+    fill_tasks(&mut file);
+    let mut list = OpenList::new().close();
+    read_list(&file, &mut list)?;
+    check_eq(list.len(), 32)
+}
+
+// Notes of 255 bytes before and behind a task whose name has 16 bytes of any value.
+#[test]
+fn noted_file() -> Result<(), Fail> {
+    let mut file = [3u8; 549];
+    put(&mut file, 0, b"\xa7\x5e\x02\xff");
+    put(
+        &mut file,
+        259,
+        b"\xa7\x5e\x01\x15\x01\x00\x02\x00\x09\x00\x01\x02\x03\x04\x05\x06\x07\x80\xa7\x5e\xfb\xfc\xfd\xfe\xff",
+    );
+    put(&mut file, 284, b"\xa7\x5e\x02\xff");
+    put(&mut file, 543, b"\xa7\x5e\x03\x02\x00\x01");
+    let mut list = OpenList::new().close();
+    read_list(&file, &mut list)?;
+    check_eq(list.len(), 1)?;
+    let Some(task) = list.task(0) else {
+        return Err(Fail::new("not listed"));
+    };
+    check(task.name.bytes() == b"\x00\x01\x02\x03\x04\x05\x06\x07\x80\xa7\x5e\xfb\xfc\xfd\xfe\xff")
+}
