@@ -56,9 +56,9 @@ fn place_of<T: Ordered>(places: &[T], count: usize, wanted: T) -> Option<usize>
     requires { ⌜ count ≤ length (now places) ⌝ }
     ensures { λ r. ⌜ Finds le wanted (take count (now (places .entry))) r ⌝ }
 {
-    for k in 0..count {
-        if same(places[k], wanted) {
-            return Some(k);
+    for at in 0..count {
+        if same(places[at], wanted) {
+            return Some(at);
         }
     }
     None

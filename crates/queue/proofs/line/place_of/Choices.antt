@@ -3,5 +3,5 @@ use lib.ListN.{take}
 use Rattle.queue.proofs.Removing.{Passed}
 use Rattle.queue.proofs.line.place_of.Given as given
 
-abbrev pub Inv-loop-k : given.InvT-loop-k
-Inv-loop-k g l = Passed (g .T·Ordered .le) (l .wanted) (take (l .count) (l .places)) (l .k)
+abbrev pub Inv-loop-at : given.InvT-loop-at
+Inv-loop-at g l = Passed (g .T·Ordered .le) (l .wanted) (take (l .count) (l .places)) (l .at)
