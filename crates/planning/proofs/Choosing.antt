@@ -21,6 +21,7 @@ use Rattle.planning.specs.Choices.{Eligible, slackOf, Best, NoneFits, Chosen, 
 use Rattle.planning.specs.Rounds.{prefers, asks, candidate, better, considered, searchBelow, search, round}
 use Rattle.planning.specs.declared.rounds.Candidate.{Candidate}
 use Rattle.planning.specs.declared.rounds.Found.{Found}
+use Rattle.planning.proofs.Searching.{one-more}
 
 prefers-self : (p q : Preference) → q ≡ p → prefers p q ≡ true
 prefers-self Asap q e = ap (prefers Asap) e
@@ -141,10 +142,6 @@ module _ (bound : ℕ → ℕ → Option ℕ) (l : TaskList) (U : ℕ) where
       (cases-bool (isSome (late .best)))
 
   -- ---- the questions
-
-  one-more : (b : Bool) (f : Found) (c : Option Candidate) → (cond b (considered f c) f) .questions ≡ f .questions + cond b 1 0
-  one-more true f c = refl
-  one-more false f c = omega arith
 
   search-asks : (p : Preference) (k : ℕ) → searchBelow bound l p U k .questions ≡ askedBelow l p U k
   unfolding searchBelow

@@ -48,6 +48,11 @@ candidate-some bound l U k (Some x) c i b e =
     let same : made ≡ c = cc in
     subst (Chosen bound l U) same (record { in-set = i; bounded = b; slack-is = refl })
 
+-- one question more where it is put
+pub one-more : (b : Bool) (f : Found) (c : Option Candidate) → (cond b (considered f c) f) .questions ≡ f .questions + cond b 1 0
+one-more true f c = refl
+one-more false f c = omega arith
+
 module _ (bound : ℕ → ℕ → Option ℕ) (l : TaskList) (U : ℕ) where
   pub search-chosen : (p : Preference) (k : ℕ) (c : Candidate) → searchBelow bound l p U k .best ≡ Some c → Chosen bound l U c
   unfolding searchBelow
@@ -60,10 +65,6 @@ module _ (bound : ℕ → ℕ → Option ℕ) (l : TaskList) (U : ℕ) where
       (λ (passed : asks l p U k ≡ false).
       search-chosen p k c (ap (λ f. f .best) (sym (cond-false (asks l p U k) (considered (searchBelow bound l p U k) (candidate l k (bound (without U k) k))) (searchBelow bound l p U k) passed)) ∙ e))
       (cases-bool (asks l p U k))
-
-  one-more : (b : Bool) (f : Found) (c : Option Candidate) → (cond b (considered f c) f) .questions ≡ f .questions + cond b 1 0
-  one-more true f c = refl
-  one-more false f c = omega arith
 
   -- every task of the set is asked about by one of the two searches
   one-asks : (b : ℕ) (q : Preference) → b ≤ 1 → cond (eqb b 1 && prefers Alap q) 1 0 + cond (eqb b 1 && prefers Asap q) 1 0 ≡ b
