@@ -2,6 +2,8 @@
 //
 //     let bound = ExactTest.ask(&list, set, task)?;
 
+#![tactic(auto)]
+
 mod demand;
 pub mod exact;
 pub mod fault;

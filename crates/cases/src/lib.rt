@@ -1,5 +1,7 @@
 // Examples of lists, tests, plans and whole files, each worked out by hand from the rules in docs/.
 
+#![tactic(auto)]
+
 #[cfg(test)]
 mod list_files;
 #[cfg(test)]

@@ -3,6 +3,8 @@
 //     let mut list = OpenList::new().close();
 //     read_list(bytes, &mut list)?;
 
+#![tactic(auto)]
+
 pub mod fault;
 pub mod list_file;
 pub mod plan_file;

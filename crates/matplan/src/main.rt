@@ -1,4 +1,7 @@
 // matplan: reads a task list file from standard input, plans it, and prints the plan or why there is none.
+
+#![tactic(auto)]
+
 ghost use Rattle.std.specs.Prelude.{◌≤◌, length, IfOk};
 
 use anyhow::anyhow;

@@ -2,6 +2,8 @@
 //
 //     let tally = plan_exact(&list, &mut plan)?;
 
+#![tactic(auto)]
+
 pub mod event;
 pub mod fault;
 pub mod plan;

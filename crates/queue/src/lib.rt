@@ -4,6 +4,8 @@
 //     let mut queue = Queue::new(&mut places);
 //     queue.put(Ready { rank: 3, task: 1 })?;
 
+#![tactic(auto)]
+
 pub mod entries;
 pub mod fault;
 mod lent;

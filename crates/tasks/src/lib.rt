@@ -4,6 +4,8 @@
 //     let number = open.add(b"antenna", 0, 1, 5)?;
 //     let list = open.close();
 
+#![tactic(auto)]
+
 pub mod fault;
 pub mod list;
 pub mod set;
