@@ -1,8 +1,8 @@
 -- What adding a row does: no fault where each of its checks passed, and one row more at the end. Assumes nothing.
-use Rattle.std.proofs.Common.{◌≡◌, ℕ, zero, suc, ◌+◌, ◌<◌, true, List, [], ◌∷◌, ◌++◌, length, take, set, Some, None, sym, ap, ◌∙◌, arith}
+use Rattle.std.proofs.Common.{◌≡◌, ℕ, zero, suc, ◌+◌, ◌<◌, true, List, [], ◌∷◌, ◌++◌, length, take, set, Some, None, ap, ◌∙◌, arith}
 use Rattle.std.proofs.lemmas.List.{take_more_set, map_push}
 use Rattle.std.proofs.lemmas.Bool.{lt-leb}
-use Rattle.tasks.specs.List.{Row, row, rows, new_row, limit_fault, add_fault, or_else}
+use Rattle.tasks.specs.List.{Row, row, rows, new_row, limit_fault, add_fault}
 use Rattle.tasks.specs.Task.{name_fits, name_of, preference_of, preference_number}
 use Rattle.tasks.specs.declared.task.Preference.{Preference}
 use Rattle.tasks.specs.declared.task.Preference.TheVariants.{Asap, Alap}

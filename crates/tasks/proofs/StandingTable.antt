@@ -1,9 +1,9 @@
 -- The table of the standing list: its rows are those of the definition, and each can be added behind those before it. Both are computed
 -- once, over the whole table. Assumes nothing.
-use Rattle.std.proofs.Common.{◌≡◌, ℕ, zero, suc, ◌+◌, ◌<◌, ◌≤◌, Bool, true, false, ◌&&◌, leb, List, [], ◌∷◌, ◌++◌, map, length, get_or, take, Some, None, codes, Option, sym, refl, ap, ◌∙◌, subst, arith}
+use Rattle.std.proofs.Common.{◌≡◌, ℕ, zero, suc, ◌+◌, ◌<◌, ◌≤◌, Bool, true, false, ◌&&◌, leb, List, [], ◌∷◌, ◌++◌, map, length, get_or, take, Some, None, codes, Option, sym, refl, ap, ◌∙◌, arith}
 use Rattle.std.proofs.lemmas.List.{get_or-map, take_more, length-map, length-take-le}
 use Rattle.std.proofs.lemmas.Bool.{and_parts, leb-true}
-use Rattle.tasks.specs.List.{Row, new_row, row, rows, opened, add_fault}
+use Rattle.tasks.specs.List.{Row, row, rows, opened, add_fault}
 use Rattle.tasks.specs.Standing.{standing, row_of}
 use Rattle.tasks.specs.declared.fault.TaskFault.{TaskFault}
 use Rattle.tasks.specs.declared.list.OpenList.{OpenList}

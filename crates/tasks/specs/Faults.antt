@@ -3,7 +3,6 @@
 --   layer_word l      the word of the layer l, as bytes
 --   task_refusal f    number, layer and place of the task fault f
 use Rattle.std.specs.Prelude.{ℕ, List, codes}
-use Rattle.tasks.specs.declared.fault.Layer as layer
 use Rattle.tasks.specs.declared.fault.Layer.{Layer}
 use Rattle.tasks.specs.declared.fault.Layer.TheVariants.{Bytes, Task, Plan, Run}
 use Rattle.tasks.specs.declared.fault.Refusal.{Refusal}

@@ -8,14 +8,14 @@ use Rattle.tasks.proofs.set.take_out.Goals as goal
 in_set : (c : goal.Then-has) → bit c.args.set c.args.task ≡ 1
 in_set c = eqb-true _ 1 (sym c.if-has.ensures)
 
-pub overflow-cast-result : goal.overflow-cast-result
-overflow-cast-result c = omega (arith, bit_within c.args.set c.args.task (omega arith) (in_set c))
+pub overflow_cast-result : goal.overflow_cast-result
+overflow_cast-result c = omega (arith, bit_within c.args.set c.args.task (omega arith) (in_set c))
 
-pub overflow-shl-result : goal.overflow-shl-result
-overflow-shl-result c = bit_within c.args.set c.args.task (omega arith) (in_set c)
+pub overflow_shl-result : goal.overflow_shl-result
+overflow_shl-result c = bit_within c.args.set c.args.task (omega arith) (in_set c)
 
-pub overflow-sub-result : goal.overflow-sub-result
-overflow-sub-result c = omega (arith, weight_is c.args.set c.args.task (omega arith) (in_set c), weight_le c.args.set c.args.task (in_set c))
+pub overflow_sub-result : goal.overflow_sub-result
+overflow_sub-result c = omega (arith, weight_is c.args.set c.args.task (omega arith) (in_set c), weight_le c.args.set c.args.task (in_set c))
 
 pub returns-then-has : goal.returns-then-has
 returns-then-has c =

@@ -4,14 +4,14 @@ use Rattle.tasks.specs.Standing.{standing}
 use Rattle.tasks.proofs.StandingTable.{row_fits, name_whole, one_more}
 use Rattle.tasks.proofs.standing.standing_list.Goals as goal
 
-pub add-row-requires : goal.add-row-requires
-add-row-requires c = record {
+pub add_row-requires : goal.add_row-requires
+add_row-requires c = record {
   fits = row_fits c.loop-k.list c.loop-k.k c.loop-k-test.true c.loop-k.invariant;
   name = name_whole c.loop-k.list c.loop-k.k c.loop-k-test.true c.loop-k.invariant;
 }
 
 pub loop-k-preserved : goal.loop-k-preserved
-loop-k-preserved c = one_more c.loop-k.list c.loop-k.k c.loop-k-test.true c.loop-k.invariant _ c.add-row.ensures
+loop-k-preserved c = one_more c.loop-k.list c.loop-k.k c.loop-k-test.true c.loop-k.invariant _ c.add_row.ensures
 
 pub returns : goal.returns
 returns c =

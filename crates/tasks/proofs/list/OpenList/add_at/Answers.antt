@@ -8,7 +8,7 @@ use Rattle.tasks.proofs.list.OpenList.add_at.Goals as goal
 pub returns : goal.returns
 returns c =
     let named = c.in-Some.ensures in
-    let limits = c.in-ok-preference.ensures in
+    let limits = c.in_ok-preference.ensures in
     let list = c.args.self.now in
     let row = new_row c.args.name.now c.args.preference c.args.cost c.args.period in
     let long : length (opened list) ≡ list.count = length-take-le list.count list.tasks (omega arith) in

@@ -4,11 +4,11 @@ use Rattle.std.proofs.lemmas.List.{places, take_at}
 use Rattle.std.proofs.lemmas.Bool.Decides.{nat_tests}
 use Rattle.tasks.proofs.task.Name.new.Goals as goal
 
-pub invariant-of-result : goal.invariant-of-result
-invariant-of-result c = ((omega arith, omega arith, search (rules, places)), tt)
+pub invariant_of-result : goal.invariant_of-result
+invariant_of-result c = record { size = (omega arith, omega arith, search (rules, places)) }
 
 pub returns : goal.returns
 returns c = (
   grind (arith, nat_tests),
-  take_at c.copy-from-slice.new.self _ _ (ap length c.copy-from-slice.ensures.after) ∙ c.copy-from-slice.ensures.after,
+  take_at c.copy_from_slice.new.self _ _ (ap length c.copy_from_slice.ensures.after) ∙ c.copy_from_slice.ensures.after,
 )
