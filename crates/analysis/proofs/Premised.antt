@@ -1,8 +1,8 @@
 -- The premises of a question against what is tested of its words, and the same premises below fewer tasks. Assumes nothing.
-use Rattle.std.proofs.Common.{◌≡◌, ℕ, ◌-◌, ◌^◌, ◌<◌, ◌≤◌, length, ap, arith}
+use Rattle.std.proofs.Common.{◌≡◌, ℕ, ◌-◌, ◌^◌, ◌<◌, ◌≤◌, length, arith}
 use Rattle.std.proofs.lemmas.Nat.{pow_pos}
 use Rattle.tasks.specs.List.{listed}
-use Rattle.tasks.specs.Set.{bit, first_set, Within}
+use Rattle.tasks.specs.Set.{bit, first_set}
 use Rattle.tasks.specs.declared.list.TaskList.{TaskList}
 use Rattle.tasks.proofs.Reading.{listed_few}
 use Rattle.tasks.proofs.SetLaws.{bits_below, below_bits, first_is}

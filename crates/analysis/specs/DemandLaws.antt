@@ -1,15 +1,15 @@
 -- Demand grows with the ticks and with the set: each job that begins in fewer ticks, or of a smaller set, is counted there too.
 -- And the steps of a loop that adds it up task by task. Assumes nothing.
-use Rattle.std.specs.Prelude.{◌≡◌, ℕ, zero, suc, ◌+◌, ◌-◌, ◌*◌, ◌/◌, ◌%◌, ◌^◌, ◌<◌, ◌≤◌, min, List, [], ◌∷◌, length, drop, slice_index_or, refl}
+use Rattle.std.specs.Prelude.{◌≡◌, ℕ, suc, ◌+◌, ◌-◌, ◌*◌, ◌/◌, ◌%◌, ◌^◌, ◌<◌, ◌≤◌, min, List, [], ◌∷◌, length, drop, slice_index_or}
 use Rattle.std.proofs.Common.{sym, ap, ◌∙◌, ⊎_elim, le_refl, add-le-add, add-mul, mul-le-mul_left, mul-le-mul_right, le-div_iff_mul-le, div-mul-le_self, arith}
 use Rattle.std.proofs.lemmas.Nat.{div-add-mod', div-mul-add, mod_below, mul-le}
 use Rattle.std.proofs.lemmas.List.{at_drop_more, at_drop_all}
 use Rattle.std.proofs.lemmas.Bool.{cases_lt}
 use Rattle.tasks.specs.List.{listed, task_at}
-use Rattle.tasks.specs.Set.{bit, Within}
+use Rattle.tasks.specs.Set.{Within}
 use Rattle.tasks.specs.declared.list.TaskList.{TaskList}
 use Rattle.tasks.specs.declared.task.Task.{Task}
-use Rattle.analysis.specs.Demand.{charge, deadline, ceil, load, demand}
+use Rattle.analysis.specs.Demand.{charge, ceil, load, demand}
 
 -- ---- periods begun
 

@@ -5,7 +5,7 @@
 --   Smallest l S i o     o is that response, or none where no number of ticks from 1 to the deadline meets its demand
 --   least f from n       the least of the n numbers from `from` on that passes the test f, if one does
 --   response l S i       the response of task i below S, if there is one
-use Rattle.std.specs.Prelude.{◌≡◌, ℕ, zero, suc, ◌<◌, ◌≤◌, Bool, cond, Some, None, Option, nat_le}
+use Rattle.std.specs.Prelude.{ℕ, zero, suc, ◌<◌, ◌≤◌, Bool, cond, Some, None, Option, nat_le}
 use Rattle.tasks.specs.List.{task_at}
 use Rattle.tasks.specs.declared.list.TaskList.{TaskList}
 use Rattle.analysis.specs.Demand.{deadline, demand}

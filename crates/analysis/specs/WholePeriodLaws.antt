@@ -1,7 +1,7 @@
 -- The whole-period test keeps the laws of tests: its bound falls with the demand, and the demand in fewer ticks than the deadline is
 -- no more than the demand over it. Assumes nothing.
-use Rattle.std.specs.Prelude.{◌≡◌, ℕ, ◌<◌, ◌≤◌, true, false, leb, Some, None, Option, nat_le, refl}
-use Rattle.std.proofs.Common.{sym, ap, ◌∙◌, ⊎_elim, arith}
+use Rattle.std.specs.Prelude.{◌≡◌, ℕ, ◌<◌, ◌≤◌, true, false, leb, Some, None, nat_le}
+use Rattle.std.proofs.Common.{sym, ◌∙◌, ⊎_elim, arith}
 use Rattle.std.proofs.lemmas.Bool.{cases_Bool, cond-true, cond-false, leb-true, le-leb, lt-leb}
 use Rattle.tasks.specs.List.{task_at}
 use Rattle.tasks.specs.Set.{Within}

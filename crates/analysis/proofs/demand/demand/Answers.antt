@@ -1,5 +1,5 @@
-use Rattle.std.proofs.Common.{◌≡◌, ℕ, ◌+◌, ◌*◌, ◌%◌, ◌≤◌, length, sym, refl, ap, ◌∙◌, arith}
-use Rattle.tasks.specs.List.{listed, task_at}
+use Rattle.std.proofs.Common.{◌≡◌, ℕ, ◌+◌, ◌*◌, ◌%◌, ◌≤◌, length, ap, ◌∙◌, arith}
+use Rattle.tasks.specs.List.{task_at}
 use Rattle.tasks.proofs.Reading.{read_is, listed_few}
 use Rattle.analysis.specs.Demand.{charge, ceil, load, demand}
 use Rattle.analysis.specs.DemandLaws.{load_more, load_all}
@@ -9,8 +9,8 @@ use Rattle.analysis.proofs.demand.demand.Goals.{then-rest-eq1, else-rest-eq1}
 zero_bit : (n : ℕ) → (n % 2 ≡ 1 → ⊥) → n % 2 ≡ 0
 zero_bit n h = omega arith
 
-pub overflow-add-sum : goal.overflow-add-sum
-overflow-add-sum c =
+pub overflow_add-sum : goal.overflow_add-sum
+overflow_add-sum c =
     let few : length c.tasks-tasks.result.now ≤ 32 = omega (arith, listed_few c.args.list.now, ap length c.tasks-tasks.ensures) in
     omega (arith, c.loop-other.invariant.1)
 
@@ -30,7 +30,7 @@ loop-other-preserved c =
     let jobs : ℕ = charge l x * ceil c.args.ticks x.period in
     let more = load_more l c.tasks-tasks.result.now c.loop-other.other-index c.loop-other.rest c.args.ticks x c.loop-other-test.true c.other-item.is in
     elim c.if-rest-eq1.branch [
-      | then-rest-eq1 w ↦ (omega (arith, w.sum-is, w.jobs-charge-sum.ensures, more, ap (λ b. b * jobs) w.if-rest-eq1.true), omega (arith, w.sum-is, w.jobs-charge-sum.ensures.small))
+      | then-rest-eq1 w ↦ (omega (arith, w.sum-is, w.jobs_charge-sum.ensures, more, ap (λ b. b * jobs) w.if-rest-eq1.true), omega (arith, w.sum-is, w.jobs_charge-sum.ensures.small))
       | else-rest-eq1 w ↦ (omega (arith, w.sum-is, more, ap (λ b. b * jobs) (zero_bit _ w.if-rest-eq1.false)), omega (arith, w.sum-is))
     ]
 

@@ -1,7 +1,6 @@
-use Rattle.std.proofs.Common.{◌≡◌, ◌<◌, ◌≤◌, sym, ap, ◌∙◌, arith}
-use Rattle.tasks.specs.List.{task_at}
+use Rattle.std.proofs.Common.{sym, ap, arith}
 use Rattle.tasks.proofs.Reading.{read_is}
-use Rattle.analysis.specs.Demand.{deadline, demand}
+use Rattle.analysis.specs.Demand.{deadline}
 use Rattle.analysis.specs.ResponseLaws.{response_is, response_none, raised}
 use Rattle.analysis.proofs.exact.response.Goals as goal
 

@@ -1,4 +1,4 @@
-use Rattle.std.proofs.Common.{◌≡◌, ◌<◌, ◌≤◌, Some, sym, ap, ◌∙◌, arith}
+use Rattle.std.proofs.Common.{◌≤◌, Some, sym, ap, ◌∙◌, arith}
 use Rattle.tasks.specs.List.{task_at}
 use Rattle.tasks.proofs.Reading.{read_is}
 use Rattle.analysis.specs.Demand.{deadline, demand}
@@ -10,15 +10,15 @@ pub returns-then-asked-from : goal.returns-then-asked-from
 unfolding whole_period
 returns-then-asked-from c =
     let l = c.args.list.now in
-    let limit = ap (deadline l) (read_is l c.tasks.result.now c.args.task c.index-tasks-task.result c.tasks.ensures (c.well-put.ensures.0 c.if-not-well-put.false).listed_task) in
+    let limit = ap (deadline l) (read_is l c.tasks.result.now c.args.task c.index-tasks-task.result c.tasks.ensures (c.well_put.ensures.0 c.if-not-well_put.false).listed_task) in
     let asked = c.demand-asked.ensures ∙ ap (demand l c.args.set c.args.task) limit in
-    (c.well-put.ensures.0 c.if-not-well-put.false, sym (within_none _ _ (omega (arith, limit, asked, c.from.ensures, c.if-asked-from.true))))
+    (c.well_put.ensures.0 c.if-not-well_put.false, sym (within_none _ _ (omega (arith, limit, asked, c.from.ensures, c.if-asked-from.true))))
 
 pub returns : goal.returns
 unfolding whole_period
 returns c =
     let l = c.args.list.now in
-    let limit = ap (deadline l) (read_is l c.tasks.result.now c.args.task c.index-tasks-task.result c.tasks.ensures (c.well-put.ensures.0 c.if-not-well-put.false).listed_task) in
+    let limit = ap (deadline l) (read_is l c.tasks.result.now c.args.task c.index-tasks-task.result c.tasks.ensures (c.well_put.ensures.0 c.if-not-well_put.false).listed_task) in
     let asked = c.demand-asked.ensures ∙ ap (demand l c.args.set c.args.task) limit in
     let fits : demand l c.args.set c.args.task (deadline l (task_at l c.args.task)) ≤ deadline l (task_at l c.args.task) = omega (arith, limit, asked, c.from.ensures, c.if-asked-from.false) in
-    (c.well-put.ensures.0 c.if-not-well-put.false, ap Some asked ∙ sym (within_is _ _ fits))
+    (c.well_put.ensures.0 c.if-not-well_put.false, ap Some asked ∙ sym (within_is _ _ fits))
