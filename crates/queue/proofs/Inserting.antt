@@ -1,6 +1,6 @@
 -- Insertion step by step: what was passed stays in front, and the rest is moved up by one place. Assumes nothing.
-use Rattle.std.proofs.Common.{◌≡◌, ℕ, zero, suc, ◌+◌, ◌-◌, ◌<◌, ◌≤◌, Bool, true, false, cond, List, [], ◌∷◌, ◌++◌, length, get_or, take, drop, set, sym, refl, ap, ◌∙◌, append_assoc, arith, rules}
-use Rattle.std.proofs.lemmas.List.{places, same_lists, take_more, drop_more, drop_all, take_all, at_drop_more, at_drop_all, get_or-take, get_or-set_same, length-take-le}
+use Rattle.std.proofs.Common.{◌≡◌, ℕ, ◌+◌, ◌-◌, ◌<◌, ◌≤◌, Bool, true, false, List, [], ◌∷◌, ◌++◌, length, get_or, take, drop, set, sym, ap, ◌∙◌, append_assoc, arith, rules}
+use Rattle.std.proofs.lemmas.List.{places, same_lists, take_more, drop_more, drop_all, at_drop_more, at_drop_all, get_or-set_same}
 use Rattle.std.proofs.lemmas.Bool.{cond-true, cond-false, cases_eq}
 use Rattle.queue.specs.Sequences.{insertion}
 

@@ -1,6 +1,6 @@
 -- Taking one element out: what stands before the first equal one stays, and the rest moves down by one place. Assumes nothing.
-use Rattle.std.proofs.Common.{◌≡◌, ℕ, zero, suc, ◌+◌, ◌-◌, ◌<◌, ◌≤◌, Bool, true, false, cond, ◌&&◌, List, [], ◌∷◌, ◌++◌, length, get_or, take, drop, set, sym, refl, ap, ◌∙◌, ⊎_elim, append_assoc, append-nil, arith, rules}
-use Rattle.std.proofs.lemmas.List.{places, same_lists, take_more, drop_more, drop_all, take_all, at_drop_more, at_drop_all, get_or-set_same}
+use Rattle.std.proofs.Common.{◌≡◌, ℕ, ◌+◌, ◌-◌, ◌<◌, ◌≤◌, Bool, true, false, List, [], ◌∷◌, ◌++◌, length, get_or, take, drop, set, sym, refl, ap, ◌∙◌, append_assoc, append-nil, arith, rules}
+use Rattle.std.proofs.lemmas.List.{places, same_lists, take_more, take_all, at_drop_more, at_drop_all, get_or-set_same}
 use Rattle.std.proofs.lemmas.Bool.{cond-true, cond-false, cases_eq}
 use Rattle.queue.specs.Sequences.{is_same, drop_one, holds, Found, Missing}
 

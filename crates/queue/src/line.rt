@@ -9,7 +9,7 @@ use crate::order::Ordered;
 fn place_for<T: Ordered>(places: &[T], count: usize, new: T) -> usize
     requires { count ≤ length places.now }
     ensures within { result ≤ count }
-    ensures split { insertion le new (take count places.now) ≡ take result (take count places.now) ++ new ∷ drop result (take count places.now) }
+    ensures split { insertion T.le new (take count places.now) ≡ take result (take count places.now) ++ new ∷ drop result (take count places.now) }
 {
     for k in 0..count {
         if !places[k].at_most(new) {
@@ -44,7 +44,7 @@ fn close_at<T: Ordered>(places: &mut [T], count: usize, from: usize)
 
 // Whether the two are equal by their order.
 fn same<T: Ordered>(x: T, y: T) -> bool
-    ensures { result ≡ is_same le x y }
+    ensures { result ≡ is_same T.le x y }
 {
     x.at_most(y) && y.at_most(x)
 }
@@ -52,7 +52,7 @@ fn same<T: Ordered>(x: T, y: T) -> bool
 // Where the first element equal to this one stands.
 fn place_of<T: Ordered>(places: &[T], count: usize, wanted: T) -> Option<usize>
     requires { count ≤ length places.now }
-    ensures { Finds le wanted (take count places.now) result }
+    ensures { Finds T.le wanted (take count places.now) result }
 {
     for at in 0..count {
         if same(places[at], wanted) {
@@ -76,7 +76,7 @@ pub(crate) fn first_of<T: Ordered>(places: &[T], count: usize) -> Option<T>
 // Puts the new element in its place among the first `count`, which leave room for it.
 pub(crate) fn put_in<T: Ordered>(places: &mut [T], count: usize, new: T)
     requires { count < length places.old }
-    ensures { places.new ≡ laid (insertion le new (take count places.old)) places.old }
+    ensures { places.new ≡ laid (insertion T.le new (take count places.old)) places.old }
 {
     let from = place_for(places, count, new);
     open_at(places, count, from, new);
@@ -94,8 +94,8 @@ pub(crate) fn drop_front<T: Ordered>(places: &mut [T], count: usize)
 // Takes the first of the first `count` elements that is equal to this one out, and says whether there was one.
 pub(crate) fn take_from<T: Ordered>(places: &mut [T], count: usize, wanted: T) -> bool
     requires { count ≤ length places.old }
-    ensures found { result ≡ holds le wanted (take count places.old) }
-    ensures after { places.new ≡ laid (drop_one le wanted (take count places.old)) places.old }
+    ensures found { result ≡ holds T.le wanted (take count places.old) }
+    ensures after { places.new ≡ laid (drop_one T.le wanted (take count places.old)) places.old }
 {
     match place_of(places, count, wanted) {
         Some(from) => {

@@ -47,8 +47,8 @@ impl<'a, T: Ordered> Queue<'a, T> {
 
     // Puts an element in behind those that are at most it. Refused exactly if the memory is full.
     pub fn put(&mut self, new: T) -> Result<(), QueueFault>
-        ensures puts { Puts le new self.old self.new result }
-        ensures stays_sorted { Ascending le (held self.old) → Ascending le (held self.new) }
+        ensures puts { Puts T.le new self.old self.new result }
+        ensures stays_sorted { Ascending T.le (held self.old) → Ascending T.le (held self.new) }
         ensures one_more { is_ok result ≡ true → IsPermutation (new ∷ held self.old) (held self.new) }
     {
         let count = self.len();
@@ -65,7 +65,7 @@ impl<'a, T: Ordered> Queue<'a, T> {
     pub fn take_front(&mut self) -> Option<T>
         ensures first { result ≡ first (held self.old) }
         ensures rest { Takes (drop 1 (held self.old)) self.old self.new }
-        ensures stays_sorted { Ascending le (held self.old) → Ascending le (held self.new) }
+        ensures stays_sorted { Ascending T.le (held self.old) → Ascending T.le (held self.new) }
     {
         let front = self.front();
         let count = self.len();
@@ -80,9 +80,9 @@ impl<'a, T: Ordered> Queue<'a, T> {
 
     // Takes the first element that is equal to this one out, and says whether there was one.
     pub fn take_out(&mut self, wanted: T) -> bool
-        ensures found { result ≡ holds le wanted (held self.old) }
-        ensures rest { Takes (drop_one le wanted (held self.old)) self.old self.new }
-        ensures stays_sorted { Ascending le (held self.old) → Ascending le (held self.new) }
+        ensures found { result ≡ holds T.le wanted (held self.old) }
+        ensures rest { Takes (drop_one T.le wanted (held self.old)) self.old self.new }
+        ensures stays_sorted { Ascending T.le (held self.old) → Ascending T.le (held self.new) }
         ensures one_fewer { result ≡ true → IsPermutation (held self.old) (wanted ∷ held self.new) }
     {
         let count = self.len();

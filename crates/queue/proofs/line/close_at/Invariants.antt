@@ -1,5 +1,5 @@
 -- The elements behind `from` up to k have moved down.
-use Rattle.std.proofs.Common.{◌≡◌, ◌+◌, ◌-◌, ◌≤◌, ◌++◌, take, drop}
+use Rattle.std.proofs.Common.{◌≡◌, ◌+◌, ◌-◌, ◌++◌, take, drop}
 use Rattle.queue.proofs.line.close_at.Given as goal
 
 abbrev pub invariant-loop-k : goal.invariant-loop-k

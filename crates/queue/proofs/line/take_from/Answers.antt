@@ -8,7 +8,7 @@ returns-in-Some g c =
     let found = c.in-Some.ensures in
     record {
       found = sym found.there;
-      after = laid_close c.args.places.now c.args.count c.requires c.in-Some.from _ _ (omega (arith, found.within, length-take-le c.args.count c.args.places.now c.requires)) found.rest c.close-at.ensures;
+      after = laid_close c.args.places.now c.args.count c.requires c.in-Some.from _ _ (omega (arith, found.within, length-take-le c.args.count c.args.places.now c.requires)) found.rest c.close_at.ensures;
     }
 
 pub returns-in-None : goal.returns-in-None

@@ -12,7 +12,7 @@ returns-then-count-room g c =
     let stays : Stays q q = record { memory_same = refl; count = refl; lender = refl } in
     record {
       puts = (refl, omega (arith, c.len-count.ensures, c.if-count-room.true), stays);
-      stays-sorted = λ up. up;
+      stays_sorted = λ up. up;
       one_more = λ e. absurd (false≢true e);
     }
 
@@ -23,12 +23,12 @@ returns g c =
     let new = c.args.new in
     let same = same_held q.count c.len-count.result q.places.now c.len-count.ensures in
     let takes : Takes (insertion le new (held q)) q _ = record {
-      memory_after = c.put-in.ensures ∙ ap (λ es. laid (insertion le new es) q.places.now) same;
+      memory_after = c.put_in.ensures ∙ ap (λ es. laid (insertion le new es) q.places.now) same;
       count = omega (arith, c.len-count.ensures, insertion_length le new (held q));
       lender = refl;
     } in
     record {
       puts = (omega (arith, c.len-count.ensures, c.if-count-room.false), takes);
-      stays-sorted = sorted_from le q _ _ takes (insertion_ascends le g.met.T.Ordered.any new (held q));
+      stays_sorted = sorted_from le q _ _ takes (insertion_ascends le g.met.T.Ordered.any new (held q));
       one_more = λ _. shuffled_from le q _ _ _ takes (insertion_shuffles le new (held q));
     }
