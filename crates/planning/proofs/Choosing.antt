@@ -1,14 +1,14 @@
 -- A search finds the best of the eligible tasks, and a round chooses as the rules say.
 -- The search goes up through the numbers and changes its mind only for a greater slack, so of equal ones the first stays.
 -- Assumes nothing.
-use Rattle.std.proofs.Common.{◌≡◌, ℕ, zero, suc, ◌+◌, ◌-◌, ◌<◌, ◌≤◌, Bool, true, false, cond, ◌&&◌, eqb, ltb, ◌⊎◌, length, is_some, Some, None, Option, sym, refl, ap, ◌∙◌, subst, inl, inr, ⊎_elim, arith}
+use Rattle.std.proofs.Common.{◌≡◌, ℕ, zero, suc, ◌+◌, ◌<◌, true, false, cond, eqb, ltb, length, is_some, Some, None, Option, sym, refl, ap, ◌∙◌, subst, inl, inr, ⊎_elim, arith}
 use Rattle.std.proofs.lemmas.Bool.{cases_Bool, cases_eq, cond-true, cond-false, and_parts, and_from, eqb-true, eq-eqb, ltb-true, ltb-false, true≢false}
 use Rattle.tasks.specs.List.{listed, task_at}
 use Rattle.tasks.specs.Set.{bit, without}
 use Rattle.tasks.specs.declared.list.TaskList.{TaskList}
 use Rattle.tasks.specs.declared.task.Preference.{Preference}
 use Rattle.tasks.specs.declared.task.Preference.TheVariants.{Asap, Alap}
-use Rattle.planning.specs.Choices.{Eligible, slack_of, Best, NoneFits, Chosen, RoundChooses, asked_below, RoundAsks, RoundsByTheRules, Stuck}
+use Rattle.planning.specs.Choices.{Eligible, slack_of, NoneFits, Chosen, RoundChooses, asked_below, RoundAsks, RoundsByTheRules, Stuck}
 use Rattle.planning.specs.Rounds.{prefers, asks, candidate, better, considered, search_below, search, round}
 use Rattle.planning.specs.declared.rounds.Candidate.{Candidate}
 use Rattle.planning.specs.declared.rounds.Found.{Found}

@@ -1,5 +1,5 @@
 -- Demand as a sum over the listed tasks, and the demand on a task below the tasks of greater rank by the ranks. Assumes nothing.
-use Rattle.std.proofs.Common.{◌≡◌, ℕ, zero, suc, ◌+◌, ◌*◌, ◌/◌, ◌%◌, ◌<◌, cond, ltb, List, [], ◌∷◌, length, get_or, sym, refl, ap, ◌∙◌, arith}
+use Rattle.std.proofs.Common.{◌≡◌, ℕ, zero, suc, ◌+◌, ◌*◌, ◌/◌, ◌%◌, ltb, List, [], ◌∷◌, length, get_or, sym, refl, ap, ◌∙◌, arith}
 use Rattle.tasks.specs.List.{listed, task_at, filler}
 use Rattle.tasks.specs.Set.{bit}
 use Rattle.tasks.specs.declared.list.TaskList.{TaskList}

@@ -1,9 +1,9 @@
 -- What judging a task needs: it is in time exactly if the response that is found fits after the hold. Assumes nothing.
-use Rattle.std.proofs.Common.{◌≡◌, ℕ, ◌+◌, ◌<◌, ◌≤◌, true, cond, ltb, leb, Some, None, Decides, Option, sym, ap, ◌∙◌, subst, arith}
+use Rattle.std.proofs.Common.{◌≡◌, ℕ, ◌+◌, ◌<◌, cond, ltb, leb, Some, None, Decides, Option, sym, ◌∙◌, arith}
 use Rattle.std.proofs.lemmas.Bool.{lt-ltb, cond-true, leb-true, le-leb}
 use Rattle.tasks.specs.List.{task_at}
 use Rattle.analysis.specs.Demand.{deadline}
-use Rattle.analysis.specs.Response.{Response, response}
+use Rattle.analysis.specs.Response.{response}
 use Rattle.analysis.specs.ResponseLaws.{response_is, response_some}
 use Rattle.planning.specs.Plans.{size, held_for, above, InTime}
 use Rattle.planning.specs.declared.plan.Plan.{Plan}

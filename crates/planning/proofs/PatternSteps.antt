@@ -1,7 +1,7 @@
 -- One task in the demanding pattern, at one event, over plain numbers and tests.
 -- t ticks have passed; at tick L all tasks of the level become ready. m jobs of a task became ready since: each task is released as soon
 -- as it may be, so as many as can. Nothing is missed. Assumes nothing.
-use Rattle.std.proofs.Common.{◌≡◌, ℕ, suc, ◌+◌, ◌-◌, ◌*◌, ◌<◌, ◌≤◌, Bool, true, false, cond, not, ◌&&◌, ◌||◌, eqb, ltb, leb, refl, mul-le-mul_right, arith}
+use Rattle.std.proofs.Common.{◌≡◌, ℕ, suc, ◌+◌, ◌-◌, ◌*◌, ◌<◌, ◌≤◌, Bool, true, false, cond, not, ◌&&◌, ◌||◌, eqb, leb, arith}
 use Rattle.std.proofs.lemmas.Bool.Decides.{nat_tests}
 use Rattle.planning.specs.Counts.{count_if}
 use Rattle.planning.proofs.WindowSteps.{level_by, newly, more_if, more_times, Ran}

@@ -5,27 +5,26 @@
 -- The first job of the task must be done by its due tick. It is done by a tick that runs it, when no other job of the level is ready; so
 -- all that is left then is one tick of work, and the demand of the ticks up to and with this one is met.
 -- Assumes nothing.
-use Rattle.std.proofs.Common.{◌≡◌, ℕ, zero, suc, ◌+◌, ◌-◌, ◌*◌, ◌/◌, ◌<◌, ◌≤◌, max, Bool, true, false, cond, not, ◌&&◌, ◌||◌, eqb, ltb, leb, ◌⊎◌, List, [], ◌∷◌, ◌++◌, Some, None, Option, sym, refl, ap, ◌∙◌, subst, inl, inr, ⊎_elim, mul-le-mul_right, div-lt_iff_lt-mul, mul-le-mul_left, arith}
+use Rattle.std.proofs.Common.{◌≡◌, ℕ, zero, suc, ◌+◌, ◌-◌, ◌*◌, ◌<◌, ◌≤◌, Bool, true, false, cond, not, ◌&&◌, ◌||◌, eqb, ltb, leb, ◌⊎◌, List, [], ◌∷◌, ◌++◌, Some, None, Option, sym, refl, ap, ◌∙◌, subst, inl, inr, ⊎_elim, mul-le-mul_right, div-lt_iff_lt-mul, mul-le-mul_left, arith}
 use Rattle.std.proofs.lemmas.Bool.{cases_Bool, cases_eq, cases_lt, cond-true, cond-false, eqb-true, eqb-false, eq-eqb, ne_eqb, leb-true, leb-false, le-leb, lt-ltb, le-ltb, and_parts, and_from, and_right, true≢false}
 use Rattle.std.proofs.lemmas.Bool.Decides.{nat_tests}
-use Rattle.analysis.specs.Demand.{ceil, demand}
+use Rattle.analysis.specs.Demand.{ceil}
 use Rattle.planning.specs.Counts.{sum_below, count_if, due_in, kept_in}
-use Rattle.planning.specs.Logs.{Entry, released, finished, ran, Log, now, is_for, known, age, served, ended}
-use Rattle.planning.specs.Patterns.{longest_hold, lead, offered, offers_below, pattern_to, pattern, Met, Demanding, PatternsDemand}
-use Rattle.planning.specs.Plans.{size, rank_of, held_for, above, charge_of, deadline_of, period_of}
+use Rattle.planning.specs.Logs.{Entry, released, ran, Log, now, is_for, known, age, served, ended}
+use Rattle.planning.specs.Patterns.{longest_hold, lead, offered, offers_below, pattern_to, Met, Demanding, PatternsDemand}
+use Rattle.planning.specs.Plans.{size, rank_of, held_for, charge_of, deadline_of, period_of}
 use Rattle.planning.specs.Replays.{pick_below, entry_for, noted, log_from, log_of}
-use Rattle.planning.specs.RunLaws.{Done}
 use Rattle.planning.specs.Runs.{clock_end, Pends, Picks, Lawful}
 use Rattle.planning.specs.declared.event.Event.{Event}
-use Rattle.planning.specs.declared.event.Event.TheVariants.{Release, Finish, Tick}
+use Rattle.planning.specs.declared.event.Event.TheVariants.{Release, Tick}
 use Rattle.planning.specs.declared.plan.Plan.{Plan}
 use Rattle.planning.proofs.Counting.{no_miss_earlier, no_miss_done}
 use Rattle.planning.proofs.DemandSums.{asked, demand_above}
 use Rattle.planning.proofs.PatternSteps.{Paced, Offered, release_paced, release_paced_gain, release_offered, release_first, release_unfinished, not_offered, refused_offered, tick_paced, tick_paced_gain, idle_left, enough_jobs}
 use Rattle.planning.proofs.PlanLimits.{charge_some, deadline_in_period, period_short, hold_in_deadline, ranks_apart}
-use Rattle.planning.proofs.Replaying.{pick_picks, entry_accepted, leads_of, log_from_append, lawful_leads, lawful_run}
+use Rattle.planning.proofs.Replaying.{pick_picks, entry_accepted, leads_of, log_from_append, lawful_run}
 use Rattle.planning.proofs.Sums.{sum_le, sum_add, sum_zero, sum_at, sum_one, sum_gain}
-use Rattle.planning.proofs.WindowSteps.{level_by, newly, more_if, Ran}
+use Rattle.planning.proofs.WindowSteps.{newly, more_if, Ran}
 use Rattle.planning.proofs.Windows.{in_level, left_of}
 
 longest_covers : (p : Plan) (n k : ℕ) → k < n → held_for p k ≤ longest_hold p n

@@ -1,18 +1,17 @@
 -- A round that places a candidate keeps what holds of a draft.
 -- The candidate leaves the unplaced set and gets the next rank, which no placed task has. Below it stay just the unplaced tasks: they are
 -- the ones that will get greater ranks. Assumes nothing.
-use Rattle.std.proofs.Common.{◌≡◌, ℕ, ◌+◌, ◌-◌, ◌*◌, ◌^◌, ◌<◌, ◌≤◌, ◌⊎◌, length, get_or, set, Some, Option, sym, refl, ap, ◌∙◌, subst, inl, inr, ⊎_elim, add-mul, mul-le-mul_left, mul-add, arith}
+use Rattle.std.proofs.Common.{◌≡◌, ℕ, ◌+◌, ◌*◌, ◌^◌, ◌<◌, ◌≤◌, length, Option, sym, refl, ap, ◌∙◌, subst, inl, inr, ⊎_elim, add-mul, mul-le-mul_left, mul-add, arith}
 use lib.Count.{ones, ones-ones}
 use Rattle.std.proofs.lemmas.Nat.{pow_pos}
 use Rattle.std.proofs.lemmas.List.{get_or-set_same, get_or-set_other, length-set}
 use Rattle.std.proofs.lemmas.Bool.{cases_eq}
 use Rattle.tasks.specs.List.{listed, task_at}
-use Rattle.tasks.specs.Set.{bit, without, first_set}
+use Rattle.tasks.specs.Set.{bit, without}
 use Rattle.tasks.specs.declared.list.TaskList.{TaskList}
 use Rattle.tasks.proofs.Reading.{listed_few}
 use Rattle.tasks.proofs.SetLaws.{one_or_none, bits_below, first_is, bit_without_same, bit_without_other, bit_first, without_le}
 use Rattle.tasks.proofs.SetSizes.{ones_without}
-use Rattle.analysis.specs.Demand.{deadline}
 use Rattle.planning.specs.Drafts.{rank_in, held_in, WellPlaced, Drafted, FewAsked}
 use Rattle.planning.specs.Rounds.{hold_by, hold_of, counted, placed_in, begun}
 use Rattle.planning.specs.declared.rounds.Candidate.{Candidate}

@@ -2,16 +2,16 @@
 -- Assumes nothing.
 use Rattle.std.proofs.Common.{◌≡◌, ℕ, zero, suc, ◌+◌, ◌-◌, ◌*◌, ◌/◌, ◌%◌, cond, ◌&&◌, eqb, leb, List, [], ◌∷◌, map, length, get_or, set, replicate, Some, None, Option, sym, refl, ap, ◌∙◌, arith}
 use Rattle.std.proofs.lemmas.List.{length-map}
-use Rattle.tasks.specs.List.{Row, row, rows, listed, task_at, filler}
+use Rattle.tasks.specs.List.{row, rows, listed, task_at, filler}
 use Rattle.tasks.specs.Set.{bit, without, first_set}
 use Rattle.tasks.specs.Task.{preference_number}
 use Rattle.tasks.specs.declared.list.TaskList.{TaskList}
 use Rattle.tasks.specs.declared.task.Preference.{Preference}
 use Rattle.tasks.specs.declared.task.Preference.TheVariants.{Asap, Alap}
 use Rattle.tasks.specs.declared.task.Task.{Task}
-use Rattle.analysis.specs.Demand.{charge, deadline, ceil, load, demand}
+use Rattle.analysis.specs.Demand.{ceil, load, demand}
 use Rattle.analysis.specs.Response.{least, response}
-use Rattle.planning.specs.Rounds.{prefers, asks, candidate, considered, search_below, search, joined, round, hold_by, hold_of, counted, placed_in, chosen_or, go_on, begun, planned}
+use Rattle.planning.specs.Rounds.{prefers, candidate, considered, search_below, search, joined, round, hold_by, counted, placed_in, chosen_or, go_on, begun, planned}
 use Rattle.planning.specs.declared.rounds.Candidate.{Candidate}
 use Rattle.planning.specs.declared.rounds.Draft.{Draft}
 

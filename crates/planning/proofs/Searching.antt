@@ -1,19 +1,20 @@
 -- What a search and a round find: a best candidate is a task of the set with the test's own bound, and the questions of both searches
 -- are as many as the set has tasks, since every task has one of the two preferences. Assumes nothing.
-use Rattle.std.proofs.Common.{◌≡◌, ℕ, zero, suc, ◌+◌, ◌-◌, ◌^◌, ◌<◌, ◌≤◌, Bool, true, false, cond, ◌&&◌, eqb, ltb, ◌⊎◌, length, is_some, Some, None, Option, sym, refl, ap, ◌∙◌, subst, inl, inr, ⊎_elim, add-one, arith}
-use lib.Count.{ones}
+use Rattle.std.proofs.Common.{◌≡◌, ℕ, zero, suc, ◌+◌, ◌-◌, ◌<◌, ◌≤◌, Bool, true, false, cond, ◌&&◌, eqb, ltb, ◌⊎◌, length, is_some, Some, None, Option, sym, refl, ap, ◌∙◌, subst, inl, inr, ⊎_elim, add-one, arith}
+use denote.Enum.Bare.{sameb}
 use Rattle.std.proofs.lemmas.Bool.{cases_Bool, cases_eq, cond-true, cond-false, and_parts, eqb-true, cases_cond}
 use Rattle.std.proofs.lemmas.Bool.Decides.{nat_tests}
 use Rattle.tasks.specs.List.{listed, task_at}
 use Rattle.tasks.specs.Set.{bit, without}
 use Rattle.tasks.specs.declared.list.TaskList.{TaskList}
+use Rattle.tasks.specs.contracts.task.Preference.{the_type}
 use Rattle.tasks.specs.declared.task.Preference.{Preference}
 use Rattle.tasks.specs.declared.task.Preference.TheVariants.{Asap, Alap}
 use Rattle.tasks.proofs.SetLaws.{bit_le, bit_without_same, bit_without_other}
-use Rattle.tasks.proofs.SetSizes.{size_below, size_le, size_ones}
+use Rattle.tasks.proofs.SetSizes.{size_below, size_le}
 use Rattle.analysis.specs.Demand.{deadline}
 use Rattle.analysis.specs.Question.{Premises}
-use Rattle.planning.specs.Rounds.{prefers, asks, candidate, better, considered, search_below, search, joined, round}
+use Rattle.planning.specs.Rounds.{prefers, asks, candidate, better, considered, search_below, search, round}
 use Rattle.planning.specs.declared.rounds.Candidate.{Candidate}
 use Rattle.planning.specs.declared.rounds.Found.{Found}
 
@@ -139,16 +140,9 @@ premised_without l U k all h = record {
 pub candidate_is : (l : TaskList) (k b s : ℕ) (o : Option ℕ) → Some b ≡ o → s ≡ deadline l (task_at l k) - b → Some (record { task = k; bound = b; slack = s }) ≡ candidate l k o
 candidate_is l k b s o e h = (λ i. Some (record { task = k; bound = b; slack = h i })) ∙ ap (candidate l k) e
 
-apart : Asap ≡ Alap → ⊥
-apart e = let z : ◌≡◌ {A = ℕ} 0 1 = cc in omega arith
-
 -- what `==` on preferences tells
-pub prefers_is : (r : Bool) (q p : Preference) → cond r (q ≡ p) (q ≡ p → ⊥) → r ≡ prefers p q
-prefers_is true Asap Asap h = refl
-prefers_is true Asap Alap h = absurd (apart h)
-prefers_is true Alap Asap h = absurd (apart (sym h))
-prefers_is true Alap Alap h = refl
-prefers_is false Asap Asap h = absurd (h refl)
-prefers_is false Asap Alap h = refl
-prefers_is false Alap Asap h = refl
-prefers_is false Alap Alap h = absurd (h refl)
+pub prefers_is : (q p : Preference) → sameb the_type q p ≡ prefers p q
+prefers_is Asap Asap = refl
+prefers_is Asap Alap = refl
+prefers_is Alap Asap = refl
+prefers_is Alap Alap = refl

@@ -2,9 +2,8 @@
 -- A window of w ticks has seen m jobs of a task become ready. Jobs of a task become ready at least a period apart, so with `a` ticks
 -- since the last release m periods fit before the end of the window, and one more. What a job has left is what it asks for less what
 -- it got, from the end of its hold up to its due tick. Assumes nothing.
-use Rattle.std.proofs.Common.{◌≡◌, ℕ, suc, ◌+◌, ◌-◌, ◌*◌, ◌<◌, ◌≤◌, Bool, true, false, cond, not, ◌&&◌, ◌||◌, eqb, ltb, leb, ◌⊎◌, refl, inl, inr, ⊎_elim, mul-le-mul_right, arith}
+use Rattle.std.proofs.Common.{◌≡◌, ℕ, suc, ◌+◌, ◌-◌, ◌*◌, ◌<◌, ◌≤◌, Bool, true, false, cond, not, ◌&&◌, ◌||◌, eqb, leb, mul-le-mul_right, arith}
 use Rattle.std.proofs.lemmas.Bool.Decides.{nat_tests}
-use Rattle.std.proofs.lemmas.Bool.{cases_eq, cases_lt, cases_Bool}
 use Rattle.planning.specs.Counts.{count_if}
 
 -- what a job has left: kn, en: its task was released, its job was ended; a, s: the ticks since, and those it got; h, d, c: hold, deadline, charge

@@ -7,19 +7,19 @@
 -- in the r - 1 ticks before it no task had more jobs become ready than are counted in the demand of r ticks, which is at most r, so at
 -- most one tick of work was left, and this tick did it.
 -- A job that has work left became ready within the window, so fewer than r ticks ago. Assumes nothing.
-use Rattle.std.proofs.Common.{◌≡◌, ℕ, zero, suc, ◌+◌, ◌-◌, ◌*◌, ◌/◌, ◌<◌, ◌≤◌, Bool, true, false, cond, ◌&&◌, ◌||◌, eqb, ltb, leb, ◌⊎◌, List, [], ◌∷◌, Some, None, Option, sym, refl, ap, ◌∙◌, subst, inl, inr, ⊎_elim, mul-le-mul_right, mul-le-mul_left, le-div_iff_mul-le, arith}
-use Rattle.std.proofs.lemmas.Bool.{cases_Bool, cases_eq, cases_lt, cond-true, cond-false, eqb-true, eq-eqb, ne_eqb, leb-true, leb-false, le-leb, lt-ltb, true≢false}
+use Rattle.std.proofs.Common.{◌≡◌, ℕ, suc, ◌+◌, ◌*◌, ◌<◌, ◌≤◌, Bool, true, false, cond, ◌&&◌, eqb, ltb, leb, [], ◌∷◌, Some, None, Option, ap, subst, inl, inr, ⊎_elim, mul-le-mul_right, mul-le-mul_left, le-div_iff_mul-le, arith}
+use Rattle.std.proofs.lemmas.Bool.{cases_Bool, cases_eq, cases_lt, cond-true, eqb-true, eq-eqb, leb-true, leb-false, le-leb, lt-ltb}
 use Rattle.std.proofs.lemmas.Bool.Decides.{nat_tests}
-use Rattle.analysis.specs.Demand.{ceil, demand}
+use Rattle.analysis.specs.Demand.{ceil}
 use Rattle.analysis.specs.Response.{Response}
 use Rattle.planning.specs.Counts.{sum_below, count_if}
-use Rattle.planning.specs.Logs.{Entry, released, finished, ran, Log, now, is_for, known, age, served, ended}
+use Rattle.planning.specs.Logs.{released, finished, ran, Log, is_for, known, age, served, ended}
 use Rattle.planning.specs.Plans.{size, rank_of, held_for, above, charge_of, deadline_of, period_of}
-use Rattle.planning.specs.RunLaws.{Done, InWindow, WindowsHold}
+use Rattle.planning.specs.RunLaws.{InWindow, WindowsHold}
 use Rattle.planning.specs.Runs.{Pends, Picks, Lawful}
 use Rattle.planning.specs.declared.plan.Plan.{Plan}
 use Rattle.planning.proofs.DemandSums.{asked, demand_above}
-use Rattle.planning.proofs.PlanLimits.{charge_some, deadline_in_period, hold_in_deadline, ranks_apart}
+use Rattle.planning.proofs.PlanLimits.{deadline_in_period, hold_in_deadline, ranks_apart}
 use Rattle.planning.proofs.Replaying.{lawful_run}
 use Rattle.planning.proofs.Sums.{sum_le, sum_add, sum_none, sum_at, sum_one, sum_gain}
 use Rattle.planning.proofs.WindowSteps.{level_by, Counted, newly, more_if, release_counted, release_gain, finish_counted, finish_less, carried, Ran, tick_carries, tick_carries_none, tick_counted, tick_gain, fresh_counted, fresh_gain, became_ready}

@@ -1,6 +1,6 @@
 -- The standing list's plan, settled by computing the definitions. Assumes nothing.
 use Rattle.std.proofs.Common.{refl}
-use Rattle.tasks.specs.List.{task_at, filler}
+use Rattle.tasks.specs.List.{task_at}
 use Rattle.tasks.specs.Set.{without}
 use Rattle.analysis.specs.Demand.{load, demand}
 use Rattle.analysis.specs.Response.{response}

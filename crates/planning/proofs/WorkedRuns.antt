@@ -1,8 +1,7 @@
 -- Runs of three plans of the four tasks, settled by computing the definitions. Assumes nothing.
-use Rattle.std.proofs.Common.{◌≡◌, ℕ, zero, suc, ◌<◌, ◌≤◌, ◌≢◌, List, [], ◌∷◌, length, get_or, replicate, refl, arith, lit≤}
-use Rattle.tasks.specs.List.{listed, task_at, filler}
-use Rattle.tasks.specs.declared.task.Preference.{Preference}
-use Rattle.tasks.specs.declared.task.Preference.TheVariants.{Asap, Alap}
+use Rattle.std.proofs.Common.{◌≡◌, ℕ, zero, suc, ◌<◌, ◌≤◌, ◌≢◌, List, [], ◌∷◌, get_or, replicate, refl, arith}
+use Rattle.tasks.specs.List.{task_at}
+use Rattle.tasks.specs.declared.task.Preference.TheVariants.{Asap}
 use Rattle.analysis.specs.Demand.{deadline}
 use Rattle.planning.specs.Replays.{pends_now, pick_below, entry_for}
 use Rattle.planning.specs.WorkedRuns.{four_tasks, PlanWith, FourTasksRun}

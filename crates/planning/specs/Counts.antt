@@ -14,7 +14,7 @@
 --   idle_in l            the ticks that ran nothing
 --   awaits p k l         a job of task k was released and its due tick has not come: 1 or 0
 --   awaited p l          how many listed tasks have such a job
-use Rattle.std.specs.Prelude.{ℕ, zero, suc, ◌+◌, ◌-◌, Bool, true, false, cond, ◌&&◌, ◌||◌, List, [], ◌∷◌, Some, None, Option, ◌==◌, nat_le, nat_lt}
+use Rattle.std.specs.Prelude.{ℕ, zero, suc, ◌+◌, ◌-◌, Bool, true, false, cond, ◌&&◌, ◌||◌, List, [], ◌∷◌, Some, None, ◌==◌, nat_le, nat_lt}
 use Rattle.planning.specs.Logs.{Entry, released, finished, ran, Log, now, is_for, known, age}
 use Rattle.planning.specs.Plans.{size, charge_of, deadline_of}
 use Rattle.planning.specs.declared.plan.Plan.{Plan}

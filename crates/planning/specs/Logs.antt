@@ -7,7 +7,7 @@
 --   age k l        the ticks since the last release of task k
 --   served k l     how many of those ran task k
 --   ended k l      a finish of task k came since its last release
-use Rattle.std.specs.Prelude.{ℕ, zero, suc, ◌+◌, Bool, true, false, cond, ◌||◌, List, [], ◌∷◌, Some, None, Option, ◌==◌}
+use Rattle.std.specs.Prelude.{ℕ, suc, ◌+◌, Bool, false, cond, ◌||◌, List, [], ◌∷◌, Some, None, Option, ◌==◌}
 
 pub data Entry : Type 0 where
   released : ℕ → Entry

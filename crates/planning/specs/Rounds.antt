@@ -12,7 +12,7 @@
 --   go_on b l n r d         the draft after at most n more rounds, the first of which places at rank r
 --   begun l                 the draft before the first round: every listed task is unplaced
 --   planned b l             the draft when planning ends
-use Rattle.std.specs.Prelude.{ℕ, zero, suc, ◌+◌, ◌-◌, Bool, true, false, cond, ◌&&◌, length, set, replicate, is_some, Some, None, Option, ◌==◌, nat_lt, slice_set}
+use Rattle.std.specs.Prelude.{ℕ, zero, suc, ◌+◌, ◌-◌, Bool, true, false, cond, ◌&&◌, length, replicate, is_some, Some, None, Option, ◌==◌, nat_lt, slice_set}
 use Rattle.tasks.specs.List.{listed, task_at}
 use Rattle.tasks.specs.Set.{bit, without, first_set}
 use Rattle.tasks.specs.declared.list.TaskList.{TaskList}

@@ -15,14 +15,14 @@ use tasks::list::TaskList;
 // Plans the list by the test. If every task is placed, the plan is written to `place`; otherwise the call is refused, with the
 // same tally, and `place` stays as it was.
 pub fn plan<T: Test>(test: &T, list: &TaskList, place: &mut Plan) -> Result<Tally, PlanFault>
-    ensures answer { result ≡ answered (tally_of (bound test.now list.now) list.now) }
-    ensures rounds_by_the_rules { RoundsByTheRules (bound test.now list.now) list.now }
-    ensures written { is_ok result ≡ true → Written (bound test.now list.now) list.now place.new }
+    ensures answer { result ≡ answered (tally_of (T.bound test.now list.now) list.now) }
+    ensures rounds_by_the_rules { RoundsByTheRules (T.bound test.now list.now) list.now }
+    ensures written { is_ok result ≡ true → Written (T.bound test.now list.now) list.now place.new }
     ensures untouched { is_ok result ≡ false → place.new ≡ place.old }
     ensures judged_yes { is_ok result ≡ true → Fits place.new }
-    ensures left_over_have_no_bound { Stuck (bound test.now list.now) (tally_of (bound test.now list.now) list.now).left }
-    ensures few_questions { Few list.now (tally_of (bound test.now list.now) list.now) }
-    ensures placed_and_left_are_all { Whole list.now (tally_of (bound test.now list.now) list.now) }
+    ensures left_over_have_no_bound { Stuck (T.bound test.now list.now) (tally_of (T.bound test.now list.now) list.now).left }
+    ensures few_questions { Few list.now (tally_of (T.bound test.now list.now) list.now) }
+    ensures placed_and_left_are_all { Whole list.now (tally_of (T.bound test.now list.now) list.now) }
 {
     let draft = rounds(test, list);
     let left = draft.unplaced;

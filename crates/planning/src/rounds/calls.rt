@@ -51,7 +51,7 @@ fn is_asked(list: &TaskList, preference: Preference, unplaced: u32, task: usize)
 // The answer to a question that is well put.
 pub(crate) fn answer<T: Test>(test: &T, list: &TaskList, set: u32, task: usize) -> Option<u16>
     requires { Premises list.now set task }
-    ensures { result ≡ bound test.now list.now set task }
+    ensures { result ≡ T.bound test.now list.now set task }
 {
     match test.ask(list, set, task) {
         Ok(bound) => bound,
@@ -62,7 +62,7 @@ pub(crate) fn answer<T: Test>(test: &T, list: &TaskList, set: u32, task: usize) 
 // Puts the question about one task below the others of the set.
 fn ask_about<T: Test>(test: &T, list: &TaskList, unplaced: u32, task: usize) -> Option<Candidate>
     requires { Premises list.now (without unplaced task) task }
-    ensures { result ≡ candidate list.now task (bound test.now list.now (without unplaced task) task) }
+    ensures { result ≡ candidate list.now task (T.bound test.now list.now (without unplaced task) task) }
 {
     let period = list.tasks()[task].period;
     match answer(test, list, take_out(unplaced, task), task) {
@@ -78,7 +78,7 @@ fn ask_about<T: Test>(test: &T, list: &TaskList, unplaced: u32, task: usize) -> 
 // One search of a round: the question about each task of the set that has the preference.
 fn search<T: Test>(test: &T, list: &TaskList, preference: Preference, unplaced: u32) -> Found
     requires { (k : ℕ) → bit unplaced k ≡ 1 → k < length (listed list.now) }
-    ensures value { result ≡ search_of (bound test.now list.now) list.now preference unplaced }
+    ensures value { result ≡ search_of (T.bound test.now list.now) list.now preference unplaced }
     ensures few { result.questions ≤ 32 }
 {
     let mut found = Found {
@@ -97,8 +97,8 @@ fn search<T: Test>(test: &T, list: &TaskList, preference: Preference, unplaced: 
 // with a task has a candidate.
 fn round<T: Test>(test: &T, list: &TaskList, unplaced: u32) -> Found
     requires { (k : ℕ) → bit unplaced k ≡ 1 → k < length (listed list.now) }
-    ensures value { result ≡ round_of (bound test.now list.now) list.now unplaced }
-    ensures places { RoundPlaces (bound test.now list.now) list.now unplaced result.best }
+    ensures value { result ≡ round_of (T.bound test.now list.now) list.now unplaced }
+    ensures places { RoundPlaces (T.bound test.now list.now) list.now unplaced result.best }
 {
     let late = search(test, list, Preference::Alap, unplaced);
     if late.best.is_some() {
@@ -149,9 +149,9 @@ impl Draft {
 
 // The rounds of planning: each places one task at the next rank, until none is left or none can be placed.
 pub(crate) fn rounds<T: Test>(test: &T, list: &TaskList) -> Draft
-    ensures value { result ≡ planned (bound test.now list.now) list.now }
-    ensures drafted { (m : ℕ) × Drafted (bound test.now list.now) list.now m result }
-    ensures stuck { Stuck (bound test.now list.now) result.unplaced }
+    ensures value { result ≡ planned (T.bound test.now list.now) list.now }
+    ensures drafted { (m : ℕ) × Drafted (T.bound test.now list.now) list.now m result }
+    ensures stuck { Stuck (T.bound test.now list.now) result.unplaced }
     ensures few { 2 * result.questions ≤ length (listed list.now) * (length (listed list.now) + 1) }
 {
     let mut draft = Draft::begin(list);

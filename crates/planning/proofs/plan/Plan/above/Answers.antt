@@ -1,4 +1,4 @@
-use Rattle.std.proofs.Common.{◌≡◌, ◌+◌, ◌-◌, ◌<◌, ◌≤◌, cond, ltb, length, get_or, take, drop, sym, ap, ◌∙◌, arith}
+use Rattle.std.proofs.Common.{◌≡◌, ◌+◌, ◌-◌, ◌<◌, cond, ltb, take, drop, sym, ap, ◌∙◌, arith}
 use Rattle.std.proofs.lemmas.List.{get_or-take}
 use Rattle.tasks.proofs.Reading.{listed_few}
 use Rattle.planning.specs.Orders.{above_in}
@@ -9,14 +9,14 @@ use Rattle.planning.proofs.plan.Plan.above.Goals as goal
 pub loop-k-init : goal.loop-k-init
 loop-k-init c = above_none _ _ c.len-k.result (omega (arith, long c.args.self.now, c.len-k.ensures))
 
-pub overflow-mul-set : goal.overflow-mul-set
-overflow-mul-set c =
+pub overflow_mul-set : goal.overflow_mul-set
+overflow_mul-set c =
     let p = c.args.self.now in
     let room = above_room (take (size p) p.ranks) (rank_of p c.args.task) c.loop-k.k (omega (arith, long p, listed_few p.list)) c.loop-k-test.true in
     record { fits = omega (arith, c.loop-k.invariant, room) }
 
-pub overflow-add-set : goal.overflow-add-set
-overflow-add-set c =
+pub overflow_add-set : goal.overflow_add-set
+overflow_add-set c =
     let p = c.args.self.now in
     let room = above_room (take (size p) p.ranks) (rank_of p c.args.task) c.loop-k.k (omega (arith, long p, listed_few p.list)) c.loop-k-test.true in
     record { fits = omega (arith, c.loop-k.invariant, room, c.from.ensures, flag_le (ltb (rank_of p c.args.task) (rank_of p (c.loop-k.k - 1))), flag_is (ltb (rank_of p c.args.task) (rank_of p (c.loop-k.k - 1)))) }

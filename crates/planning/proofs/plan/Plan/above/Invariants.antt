@@ -5,4 +5,4 @@ use Rattle.planning.specs.Orders.{above_in}
 use Rattle.planning.proofs.plan.Plan.above.Given as goal
 
 abbrev pub invariant-loop-k : goal.invariant-loop-k
-invariant-loop-k l = l.set ≡ above_in (drop l.k (take (length (listed l.self.list)) l.self.ranks)) l.own_val
+invariant-loop-k l = l.set ≡ above_in (drop l.k (take (length (listed l.self.list)) l.self.ranks)) l.own

@@ -1,30 +1,25 @@
-use Rattle.std.proofs.Common.{sym, refl, ap, arith}
+use Rattle.std.proofs.Common.{refl, ap}
 use Rattle.std.proofs.lemmas.Bool.{true≢false, false≢true}
 use Rattle.planning.proofs.Choosing.{rounds_by_the_rules}
 use Rattle.planning.proofs.Finishing.{finished_ranked, finished_apart, finished_held, finished_prompt, finished_fits, answer_ok, answer_left, tally_few, tally_whole, tally_stuck}
 use Rattle.planning.proofs.plan.planner.plan.Goals as goal
 
-pub invariant-of-place : goal.invariant-of-place
-invariant-of-place g c =
+pub invariant_of-place : goal.invariant_of-place
+invariant_of-place g c =
     let l = c.args.list.now in
     let bound = g.T.Test.bound c.args.test.now l in
     let law = g.met.T.Test.sound c.args.test.now l in
     let m = c.rounds-draft.ensures.drafted.0 in
     let sound = c.rounds-draft.ensures.drafted.1 in
     let d = c.rounds-draft.result in
-    let none = c.if-left-ne0.false in (
-      (sound.long_ranks, sound.long_holds),
-      (
-        finished_ranked bound l m d sound none,
-        (
-          finished_apart bound l m d sound none,
-          (
-            finished_held bound l m d sound none law,
-            (finished_prompt bound l m d sound none, tt),
-          ),
-        ),
-      ),
-    )
+    let none = c.if-left-ne0.false in
+    record {
+      sizes = (sound.long_ranks, sound.long_holds);
+      ranked = finished_ranked bound l m d sound none;
+      apart = finished_apart bound l m d sound none;
+      held = finished_held bound l m d sound none law;
+      prompt = finished_prompt bound l m d sound none;
+    }
 
 pub returns-then-left-ne0 : goal.returns-then-left-ne0
 returns-then-left-ne0 g c =
@@ -37,10 +32,10 @@ returns-then-left-ne0 g c =
       rounds_by_the_rules = rounds_by_the_rules bound l;
       written = λ e. absurd (false≢true e);
       untouched = λ _. refl;
-      judged-yes = λ e. absurd (false≢true e);
-      left-over-have-no-bound = tally_stuck bound l d ended.value ended.stuck;
-      few-questions = tally_few bound l d ended.value ended.few;
-      placed-and-left-are-all = tally_whole bound l d ended.value ended.drafted.0 ended.drafted.1;
+      judged_yes = λ e. absurd (false≢true e);
+      left_over_have_no_bound = tally_stuck bound l d ended.value ended.stuck;
+      few_questions = tally_few bound l d ended.value ended.few;
+      placed_and_left_are_all = tally_whole bound l d ended.value ended.drafted.0 ended.drafted.1;
     }
 
 pub returns : goal.returns
@@ -55,8 +50,8 @@ returns g c =
       rounds_by_the_rules = rounds_by_the_rules bound l;
       written = λ _. record { list = refl; ranks = ap (λ x. x.ranks) ended.value; holds = ap (λ x. x.holds) ended.value };
       untouched = λ e. absurd (true≢false e);
-      judged-yes = λ _. finished_fits bound _ ended.drafted.0 d ended.drafted.1 law refl refl c.if-left-ne0.false;
-      left-over-have-no-bound = tally_stuck bound l d ended.value ended.stuck;
-      few-questions = tally_few bound l d ended.value ended.few;
-      placed-and-left-are-all = tally_whole bound l d ended.value ended.drafted.0 ended.drafted.1;
+      judged_yes = λ _. finished_fits bound _ ended.drafted.0 d ended.drafted.1 law refl refl c.if-left-ne0.false;
+      left_over_have_no_bound = tally_stuck bound l d ended.value ended.stuck;
+      few_questions = tally_few bound l d ended.value ended.few;
+      placed_and_left_are_all = tally_whole bound l d ended.value ended.drafted.0 ended.drafted.1;
     }

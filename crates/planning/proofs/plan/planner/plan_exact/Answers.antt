@@ -9,9 +9,9 @@ returns c =
       rounds_by_the_rules = told.rounds_by_the_rules;
       written = told.written;
       untouched = told.untouched;
-      judged-yes = told.judged-yes;
-      left-over-have-no-bound = told.left-over-have-no-bound;
-      few-questions = told.few-questions;
-      rows-decide = λ m e. planned_same m c.args.list.now e;
-      placed-and-left-are-all = told.placed-and-left-are-all;
+      judged_yes = told.judged_yes;
+      left_over_have_no_bound = told.left_over_have_no_bound;
+      few_questions = told.few_questions;
+      rows_decide = λ m e. planned_same m c.args.list.now e;
+      placed_and_left_are_all = told.placed_and_left_are_all;
     }

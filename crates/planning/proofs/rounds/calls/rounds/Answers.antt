@@ -1,5 +1,4 @@
-use Rattle.std.proofs.Common.{sym, ◌∙◌, subst, arith}
-use Rattle.tasks.proofs.Reading.{listed_few}
+use Rattle.std.proofs.Common.{sym, subst, arith}
 use Rattle.planning.proofs.GoingOn.{Going, going_start, going_listed, going_fits, going_chosen, going_placed, going_ended, going_all}
 use Rattle.planning.proofs.rounds.calls.rounds.Goals as goal
 
@@ -9,12 +8,12 @@ loop-placed-init g c = going_start _ c.args.list.now _ c.begin-draft.ensures
 pub round-found-requires : goal.round-found-requires
 round-found-requires g c = going_listed _ _ _ _ c.loop-placed.invariant
 
-pub overflow-add-draft : goal.overflow-add-draft
-overflow-add-draft g c = record { fits = going_fits _ _ _ _ c.loop-placed.invariant _ c.round-found.ensures.value }
+pub overflow_add-draft : goal.overflow_add-draft
+overflow_add-draft g c = record { fits = going_fits _ _ _ _ c.loop-placed.invariant _ c.round-found.ensures.value }
 
-pub returns-in-default : goal.returns-in-default
-returns-in-default g c =
-    let ended = going_ended _ _ _ _ c.loop-placed.invariant c.round-found.result (omega arith) c.round-found.ensures.value c.in-default.is in
+pub returns-in_default : goal.returns-in_default
+returns-in_default g c =
+    let ended = going_ended _ _ _ _ c.loop-placed.invariant c.round-found.result (omega arith) c.round-found.ensures.value c.in_default.is in
     record { value = ended.value; drafted = ended.drafted; stuck = ended.stuck; few = ended.few }
 
 pub place-requires : goal.place-requires

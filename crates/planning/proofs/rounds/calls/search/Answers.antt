@@ -1,17 +1,16 @@
-use Rattle.std.proofs.Common.{◌≡◌, ◌≤◌, length, sym, ap, ◌∙◌, subst, arith}
+use Rattle.std.proofs.Common.{◌≡◌, length, sym, ap, ◌∙◌, arith}
 use Rattle.tasks.specs.List.{listed}
 use Rattle.tasks.proofs.Reading.{listed_few}
 use Rattle.planning.specs.Rounds.{considered, search_below}
 use Rattle.planning.proofs.Searching.{search_none, search_asked, search_passed, search_few, premised_without}
-use Rattle.planning.proofs.rounds.calls.search.Given as given
 use Rattle.planning.proofs.rounds.calls.search.Goals as goal
-use Rattle.planning.proofs.rounds.calls.search.Goals.{then-is-asked, else-is-asked}
+use Rattle.planning.proofs.rounds.calls.search.Goals.{then-is_asked, else-is_asked}
 
 pub loop-k-init : goal.loop-k-init
 loop-k-init g c = search_none (g.T.Test.bound c.args.test.now c.args.list.now) c.args.list.now c.args.unplaced c.args.preference
 
-pub ask-about-requires : goal.ask-about-requires
-ask-about-requires g c = premised_without c.args.list.now c.args.unplaced c.loop-k.k c.requires (omega arith)
+pub ask_about-requires : goal.ask_about-requires
+ask_about-requires g c = premised_without c.args.list.now c.args.unplaced c.loop-k.k c.requires (omega arith)
 
 pub after-found-requires : goal.after-found-requires
 after-found-requires g c =
@@ -22,12 +21,12 @@ pub loop-k-preserved : goal.loop-k-preserved
 loop-k-preserved g c =
     let l = c.args.list.now in
     let bound = g.T.Test.bound c.args.test.now l in
-    elim c.if-is-asked.branch [
-      | then-is-asked w ↦
-          w.found-is ∙ (w.after-found.ensures ∙ (ap (λ a. considered c.loop-k.found a) w.ask-about.ensures
-          ∙ search_asked bound l c.args.unplaced c.args.preference c.loop-k.k c.loop-k.found c.loop-k.invariant (sym w.if-is-asked.ensures)))
-      | else-is-asked w ↦
-          w.found-is ∙ search_passed bound l c.args.unplaced c.args.preference c.loop-k.k c.loop-k.found c.loop-k.invariant (sym w.if-is-asked.ensures)
+    elim c.if-is_asked.branch [
+      | then-is_asked w ↦
+          w.found-is ∙ (w.after-found.ensures ∙ (ap (λ a. considered c.loop-k.found a) w.ask_about.ensures
+          ∙ search_asked bound l c.args.unplaced c.args.preference c.loop-k.k c.loop-k.found c.loop-k.invariant (sym w.if-is_asked.ensures)))
+      | else-is_asked w ↦
+          w.found-is ∙ search_passed bound l c.args.unplaced c.args.preference c.loop-k.k c.loop-k.found c.loop-k.invariant (sym w.if-is_asked.ensures)
     ]
 
 pub returns : goal.returns
