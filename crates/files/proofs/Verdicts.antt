@@ -1,7 +1,7 @@
 -- What the program's input comes to, from what reading and planning answered. Assumes nothing.
-use Rattle.std.proofs.Common.{◌≡◌, ℕ, Bool, true, false, cond, eqb, List, Ok, Err, Result, sym, refl, ap, ◌∙◌, subst, ⊎_elim, arith, MatchResult}
+use Rattle.std.proofs.Common.{◌≡◌, ℕ, true, false, eqb, List, Ok, Err, Result, sym, refl, ap, ◌∙◌, subst, ⊎_elim, arith, MatchResult}
 use Rattle.std.proofs.lemmas.Bool.{cases_Bool, cond-true, cond-false, eqb-true, eqb-false}
-use Rattle.tasks.specs.List.{Row, rows, listed}
+use Rattle.tasks.specs.List.{rows, listed}
 use Rattle.tasks.specs.declared.list.TaskList.{TaskList}
 use Rattle.analysis.specs.Response.{response}
 use Rattle.planning.specs.Faults.{plan_refusal}

@@ -9,7 +9,7 @@
 --   Plans bs p a           reading and planning bs answers a, and leaves the plan p
 --   Prints bs old new a    the program's work on the input bs answers a, and turns the lent buffer `old` into `new`
 use Rattle.std.specs.Prelude.{◌≡◌, ℕ, ◌<◌, ◌≤◌, List, length, Ok, Err, Result, MatchResult, ◌≢◌}
-use Rattle.tasks.specs.List.{Row, rows, listed}
+use Rattle.tasks.specs.List.{rows, listed}
 use Rattle.tasks.specs.declared.fault.Refusal.{Refusal}
 use Rattle.tasks.specs.declared.list.TaskList.{TaskList}
 use Rattle.analysis.specs.Response.{response}

@@ -8,30 +8,30 @@ use Rattle.files.proofs.list_file.tasks_in.Goals.{In-Some}
 
 -- the record of this turn
 shown : (c : goal.In-Some) → Shown c.loop-at.reader c.next.new.self c.in-Some.at (view c.in-Some.record)
-shown c = shown_is c.loop-at.reader c.next.new.self c.in-ok-at.field-0 c.in-Some.at c.in-Some.record c.in-Some.is c.in-ok-at.ensures
+shown c = shown_is c.loop-at.reader c.next.new.self c.in_ok-at.field-0 c.in-Some.at c.in-Some.record c.in-Some.is c.in_ok-at.ensures
 
-pub returns-then-size-gt-MAX-FILE : goal.returns-then-size-gt-MAX-FILE
-returns-then-size-gt-MAX-FILE c = too_long c.args.bytes.now (omega arith)
+pub returns-then-size-gt-MAX_FILE : goal.returns-then-size-gt-MAX_FILE
+returns-then-size-gt-MAX_FILE c = too_long c.args.bytes.now (omega arith)
 
 pub loop-at-init : goal.loop-at-init
 loop-at-init c = starts c.args.bytes.now c.new-reader.result c.new-open.result (omega arith) c.new-reader.ensures c.new-open.ensures
 
-pub returns-in-err-at : goal.returns-in-err-at
-returns-in-err-at c =
-    let p = err_from_is_err_and c.from-residual.result c.from-residual.ensures.1 in
-    let h = c.in-err-at.ensures.answered in
-    rw (p.1, p.2) (head_refused _ c.loop-at.reader _ _ c.in-err-at.field-0.0 c.loop-at.invariant h.unended h.fault)
+pub returns-in_err-at : goal.returns-in_err-at
+returns-in_err-at c =
+    let p = err_from_is_err_and c.from_residual.result c.from_residual.ensures.1 in
+    let h = c.in_err-at.ensures.answered in
+    rw (p.1, p.2) (head_refused _ c.loop-at.reader _ _ c.in_err-at.field-0.0 c.loop-at.invariant h.unended h.fault)
 
-pub take-record-requires : goal.take-record-requires
-take-record-requires c =
-    let w = place_within _ _ _ _ _ _ _ c.loop-at.invariant (shown (goal.at.take-record-requires c).In-Some) in
+pub take_record-requires : goal.take_record-requires
+take_record-requires c =
+    let w = place_within _ _ _ _ _ _ _ c.loop-at.invariant (shown (goal.at.take_record-requires c).In-Some) in
     record { place = omega arith; count = c.loop-at.invariant.count }
 
-pub returns-in-err-tasks : goal.returns-in-err-tasks
-returns-in-err-tasks c =
-    let p = err_from_is_err_and c.from-residual-in-err-tasks.result c.from-residual-in-err-tasks.ensures.1 in
-    let h = shown (goal.at.returns-in-err-tasks c).In-Some in
-    rw (p.1, p.2) (record_refused _ c.loop-at.reader _ _ _ _ _ _ c.loop-at.invariant h c.in-err-tasks.ensures)
+pub returns-in_err-tasks : goal.returns-in_err-tasks
+returns-in_err-tasks c =
+    let p = err_from_is_err_and c.from_residual-in_err-tasks.result c.from_residual-in_err-tasks.ensures.1 in
+    let h = shown (goal.at.returns-in_err-tasks c).In-Some in
+    rw (p.1, p.2) (record_refused _ c.loop-at.reader _ _ _ _ _ _ c.loop-at.invariant h c.in_err-tasks.ensures)
 
 pub loop-at-smaller : goal.loop-at-smaller
 loop-at-smaller c =
@@ -41,5 +41,5 @@ loop-at-smaller c =
 pub loop-at-preserved : goal.loop-at-preserved
 loop-at-preserved c =
     let h = shown (goal.at.loop-at-preserved c).In-Some in
-    let taken = c.in-ok-tasks.ensures in
-    turn_goes_on _ _ _ _ _ _ _ _ _ c.loop-at.invariant h c.in-ok-at.ensures.file taken.0 taken.1
+    let taken = c.in_ok-tasks.ensures in
+    turn_goes_on _ _ _ _ _ _ _ _ _ c.loop-at.invariant h c.in_ok-at.ensures.file taken.0 taken.1

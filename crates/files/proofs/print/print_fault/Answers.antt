@@ -3,8 +3,8 @@ use Rattle.std.proofs.Common.{length, ap, arith, rules}
 use Rattle.files.proofs.Texts.{decimal_short, word_short}
 use Rattle.files.proofs.print.print_fault.Goals as goal
 
-pub push-number-requires : goal.push-number-requires
-push-number-requires c = omega (arith, ap length c.new-line.ensures, decimal_short c.from.result (omega arith))
+pub push_number-requires : goal.push_number-requires
+push_number-requires c = omega (arith, ap length c.new-line.ensures, decimal_short c.from.result (omega arith))
 
 pub push-requires-2 : goal.push-requires-2
 push-requires-2 c = omega (arith, ap length c.new-line.ensures, decimal_short c.from.result (omega arith))
@@ -17,8 +17,8 @@ pub push-requires-4 : goal.push-requires-4
 push-requires-4 c =
     omega (arith, ap length c.new-line.ensures, decimal_short c.from.result (omega arith), ap length c.word.ensures, word_short c.args.refusal.layer)
 
-pub push-number-requires-2 : goal.push-number-requires-2
-push-number-requires-2 c =
+pub push_number-requires-2 : goal.push_number-requires-2
+push_number-requires-2 c =
     let place = decimal_short c.args.refusal.place (omega arith) in
     omega (arith, ap length c.new-line.ensures, decimal_short c.from.result (omega arith), ap length c.word.ensures, word_short c.args.refusal.layer)
 

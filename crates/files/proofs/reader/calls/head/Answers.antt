@@ -17,7 +17,7 @@ returns-in-len4-up-4 c =
           | else-first w ↦ let second : not (eqb (get_or bs 1 0) 0x5e) ≡ false = cc in and_from _ _ (eq-eqb _ 0xa7 w.if-first.false) (not-false _ second)
         ];
         kind = sym c.if-not-has.ensures;
-        fits = sym c.if-not-length-fits.ensures;
+        fits = sym c.if-not-length_fits.ensures;
         whole = omega (arith, length-drop 4 bs, c.if-from-rest.true, c.from.ensures);
       }),
       refl,
