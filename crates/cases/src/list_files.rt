@@ -32,7 +32,7 @@ fn any_name(rt: HostRuntime) -> Result<(), Fail> {
     let Some(task) = list.task(0) else {
         return Err(Fail::new("not listed"));
     };
-    assert!(rt; task.name.bytes() == b"\x00\xff");
+    assert!(rt; task.name.bytes() == b"\x00\xff".as_slice());
     Ok(())
 }
 
@@ -98,7 +98,8 @@ fn noted_file(rt: HostRuntime) -> Result<(), Fail> {
         return Err(Fail::new("not listed"));
     };
     assert!(rt;
-        task.name.bytes() == b"\x00\x01\x02\x03\x04\x05\x06\x07\x80\xa7\x5e\xfb\xfc\xfd\xfe\xff"
+        task.name.bytes()
+            == b"\x00\x01\x02\x03\x04\x05\x06\x07\x80\xa7\x5e\xfb\xfc\xfd\xfe\xff".as_slice()
     );
     Ok(())
 }

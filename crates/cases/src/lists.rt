@@ -51,7 +51,7 @@ fn reading(rt: HostRuntime) -> Result<(), Fail> {
     let Some(task) = list.task(0) else {
         return Err(Fail::new("not listed"));
     };
-    assert!(rt; task.name.bytes() == b"card");
+    assert!(rt; task.name.bytes() == b"card".as_slice());
     assert_eq!(rt; task.preference, Preference::Alap);
     assert_eq!(rt; task.cost, 4);
     assert_eq!(rt; task.period, 50);

@@ -1,7 +1,7 @@
 -- What is written of a closed list is a list file of its rows. Assumes nothing.
 use Rattle.std.proofs.Common.{◌≡◌, ℕ, ◌+◌, ◌*◌, ◌/◌, ◌%◌, ◌<◌, ◌≤◌, List, [], ◌∷◌, ◌++◌, map, length, get_or, take, Ok, sym, refl, ap, ◌∙◌, arith, lit≤, length-append}
 use Rattle.std.proofs.lemmas.List.{append_assoc, length-take-le, length-map, flat_map_more, map_more, take_all}
-use Rattle.std.specs.List.{flat_map, AllByRecursion as All}
+use Rattle.std.specs.List.{flat_map, AllByRecursion}
 use Rattle.files.specs.Decoding.{decoded}
 use Rattle.files.specs.Layout.{task_body, task_record, end_record, encoded, task, item_bytes, item_rows, KeepsLimits, Fits, ListFile}
 use Rattle.files.proofs.ReadsBack.{file_decodes}
@@ -31,7 +31,7 @@ row_keeps t = record {
   name = omega (arith, name_length t.name, t.name.size);
 }
 
-rows_keep : (ts : List Task) → All Fits (map task (rows ts))
+rows_keep : (ts : List Task) → AllByRecursion Fits (map task (rows ts))
 rows_keep [] = tt
 rows_keep (t ∷ ts) = (row_keeps t, rows_keep ts)
 

@@ -2,7 +2,7 @@
 use Rattle.std.proofs.Common.{◌≡◌, ℕ, zero, suc, ◌+◌, ◌/◌, ◌%◌, ◌<◌, ◌≤◌, Bool, true, false, cond, ltb, List, [], ◌∷◌, ◌++◌, length, get_or, take, drop, Some, None, Ok, Err, Option, Result, sym, refl, ap, ◌∙◌, subst, ⊎_elim, arith, lit≤, length-drop, length-take}
 use Rattle.std.proofs.lemmas.List.{drop_all, drop-drop, take-append-drop, append_assoc, append-nil, length_push, get_or-take, get_or-drop, get_or_past}
 use Rattle.std.proofs.lemmas.Bool.{leb-true, leb-false, ltb-false, eqb-true, eqb-false, and_parts, not-false, cases_lt, true≢false}
-use Rattle.std.specs.List.{flat_map, AllByRecursion as All}
+use Rattle.std.specs.List.{flat_map, AllByRecursion}
 use Rattle.files.specs.Decoding.{takes, end_fault, unless_task, unless_bytes, goes_on, decoded_from, decoded}
 use Rattle.files.specs.Format.{is_end, number, head_fault, kind_fits, length_fits, body, size, said, first}
 use Rattle.files.specs.Layout.{laid, two_bytes, task_body, task_record, end_record, Item, task, note, item_bytes, item_rows, KeepsLimits, Fits, ListFile, ReadsFiles}
@@ -129,7 +129,7 @@ end_back (c ∷ d ∷ e ∷ xs) h l = absurd (omega arith)
 -- what is left of a file, xs, adds rows to rs and ends with the count of all
 record Rest (xs : List ℕ) (rs out : List Row) : Type 0 where
   items : List Item
-  fit : All Fits items
+  fit : AllByRecursion Fits items
   tasks : rs ++ item_rows items ≡ out
   few : length out ≤ 32
   bytes : xs ≡ flat_map item_bytes items ++ end_record (length out)

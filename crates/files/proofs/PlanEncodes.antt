@@ -1,6 +1,6 @@
 -- What is written of a plan is a plan file of its rows, for its list, and so reads back. Assumes nothing.
 use Rattle.std.proofs.Common.{◌≡◌, ℕ, suc, ◌+◌, ◌*◌, ◌<◌, List, [], ◌∷◌, ◌++◌, map, length, Ok, sym, refl, ap, ◌∙◌, arith, length-append}
-use Rattle.std.specs.List.{AllByRecursion as All}
+use Rattle.std.specs.List.{AllByRecursion}
 use Rattle.files.specs.Layout.{end_record}
 use Rattle.files.specs.PlanDecoding.{PlanRow, new_plan_row, rows_below, plan_rows, decoded_plan}
 use Rattle.files.specs.PlanLayout.{row_record, row, items_bytes, item_rows, encoded_plan, Fits, PlanFile}
@@ -11,7 +11,7 @@ use Rattle.tasks.proofs.Reading.{listed_few}
 use Rattle.planning.specs.Plans.{size, rank_of, held_for}
 use Rattle.planning.specs.declared.plan.Plan.{Plan}
 
-rows_fit : (rs : List PlanRow) → All Fits (map row rs)
+rows_fit : (rs : List PlanRow) → AllByRecursion Fits (map row rs)
 rows_fit [] = tt
 rows_fit (r ∷ rs) = (tt, rows_fit rs)
 

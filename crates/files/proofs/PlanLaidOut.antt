@@ -3,7 +3,7 @@
 use Rattle.std.proofs.Common.{◌≡◌, ℕ, zero, suc, ◌+◌, ◌≤◌, Bool, true, false, cond, ltb, List, [], ◌∷◌, ◌++◌, length, get_or, drop, Some, None, Ok, Err, Option, Result, sym, refl, ap, ◌∙◌, subst, arith, length-drop}
 use Rattle.std.proofs.lemmas.List.{drop_all, drop-drop, append_assoc, append-nil, length_push}
 use Rattle.std.proofs.lemmas.Bool.{leb-true, ltb-false, eqb-true, and_parts, not-false, true≢false}
-use Rattle.std.specs.List.{AllByRecursion as All}
+use Rattle.std.specs.List.{AllByRecursion}
 use Rattle.files.specs.Format.{is_end, number, head_fault, kind_fits, length_fits, body, size, said, first}
 use Rattle.files.specs.Layout.{laid, two_bytes, end_record}
 use Rattle.files.specs.PlanDecoding.{PlanRow, new_plan_row, plan_rows, plan_row_fault, plan_end_fault, unless_row, unless_bytes, takes_row, plan_goes_on, plan_from, decoded_plan}
@@ -57,7 +57,7 @@ row_back (k ∷ r ∷ c ∷ d ∷ e ∷ xs) h l = absurd (omega arith)
 -- what is left of a file, xs, adds rows to rs and ends with the count of all
 record Rest (xs : List ℕ) (rs out : List PlanRow) : Type 0 where
   items : List PlanItem
-  fit : All Fits items
+  fit : AllByRecursion Fits items
   rows : rs ++ item_rows items ≡ out
   bytes : xs ≡ items_bytes (length rs) items ++ end_record (length out)
 

@@ -2,7 +2,7 @@
 use Rattle.std.proofs.Common.{◌≡◌, ℕ, suc, ◌+◌, ◌-◌, ◌≤◌, true, List, [], ◌∷◌, ◌++◌, length, drop, None, Ok, sym, refl, ap, ◌∙◌, subst, arith}
 use Rattle.std.proofs.lemmas.List.{append_assoc, append-nil, length_push}
 use Rattle.std.proofs.lemmas.Bool.{le-leb, le-ltb, cond-false}
-use Rattle.std.specs.List.{AllByRecursion as All}
+use Rattle.std.specs.List.{AllByRecursion}
 use Rattle.files.specs.Format.{Said, is_end, head_fault, kind_fits, length_fits, size, said, first}
 use Rattle.files.specs.Format as format
 use Rattle.files.specs.Layout.{laid, two_bytes, end_record}
@@ -43,7 +43,7 @@ end_read n l bs at rs e all =
     (ap (λ k. format.end k) (sym (two_bytes_back (length rs))))
     (ap (λ o. unless_bytes o rs) (cond-false _ _ _ (le-ltb (length rs) (length (listed l)) (omega arith)) ∙ end_good (length bs) at (length rs) size_is))
 
-file_read : (is : List PlanItem) (n : ℕ) (l : TaskList) (bs : List ℕ) (at : ℕ) (rs : List PlanRow) → drop at bs ≡ items_bytes (length rs) is ++ end_record (length rs + length (item_rows is)) → All Fits is → KeepsRules l (rs ++ item_rows is) → length bs - at ≤ n → plan_from n l bs at rs ≡ Ok (rs ++ item_rows is)
+file_read : (is : List PlanItem) (n : ℕ) (l : TaskList) (bs : List ℕ) (at : ℕ) (rs : List PlanRow) → drop at bs ≡ items_bytes (length rs) is ++ end_record (length rs + length (item_rows is)) → AllByRecursion Fits is → KeepsRules l (rs ++ item_rows is) → length bs - at ≤ n → plan_from n l bs at rs ≡ Ok (rs ++ item_rows is)
 file_read [] n l bs at rs e fit rules enough =
     let here : drop at bs ≡ end_record (length rs) = e ∙ ap end_record (omega arith) in
     let m = spent n (omega (arith, enough, bytes_left 3 (two_bytes (length rs)) [] bs at (here ∙ sym (append-nil (end_record (length rs)))))) in

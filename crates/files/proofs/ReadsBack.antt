@@ -2,7 +2,7 @@
 use Rattle.std.proofs.Common.{◌≡◌, ℕ, suc, ◌+◌, ◌-◌, ◌<◌, ◌≤◌, true, List, [], ◌∷◌, ◌++◌, length, drop, Ok, sym, refl, ap, ◌∙◌, arith, length-append, length-drop}
 use Rattle.std.proofs.lemmas.List.{drop_at, drop-drop, append_assoc, append-nil, length_push}
 use Rattle.std.proofs.lemmas.Bool.{le-leb, le-ltb, and_from, cond-false}
-use Rattle.std.specs.List.{flat_map, AllByRecursion as All}
+use Rattle.std.specs.List.{flat_map, AllByRecursion}
 use Rattle.files.specs.Decoding.{takes, decoded_from, decoded, unless_task, unless_bytes}
 use Rattle.files.specs.Format.{Said, is_end, kind_fits, length_fits, size, said, first}
 use Rattle.files.specs.Format as format
@@ -47,7 +47,7 @@ end_read n bs at rs e =
     (ap (λ k. format.end k) (sym (two_bytes_back (length rs))))
     (ap (λ o. unless_bytes o rs) (end_good (length bs) at (length rs) size_is))
 
-pub file_read : (is : List Item) (n : ℕ) (bs : List ℕ) (at : ℕ) (rs : List Row) → drop at bs ≡ flat_map item_bytes is ++ end_record (length rs + length (item_rows is)) → All Fits is → length rs + length (item_rows is) ≤ 32 → length bs - at ≤ n → decoded_from n bs at rs ≡ Ok (rs ++ item_rows is)
+pub file_read : (is : List Item) (n : ℕ) (bs : List ℕ) (at : ℕ) (rs : List Row) → drop at bs ≡ flat_map item_bytes is ++ end_record (length rs + length (item_rows is)) → AllByRecursion Fits is → length rs + length (item_rows is) ≤ 32 → length bs - at ≤ n → decoded_from n bs at rs ≡ Ok (rs ++ item_rows is)
 file_read [] n bs at rs e fit few enough =
     let here : drop at bs ≡ end_record (length rs) = e ∙ ap end_record (omega arith) in
     let m = spent n (omega (arith, enough, bytes_left 3 (two_bytes (length rs)) [] bs at (here ∙ sym (append-nil (end_record (length rs)))))) in

@@ -14,7 +14,7 @@
 --   ListFile bs rs   bs is a list file, and its tasks have the rows rs
 --   ReadsFiles bs new a    reading bs answers a, and is accepted exactly if bs is a list file; the list `new` then has its rows
 use Rattle.std.specs.Prelude.{◌≡◌, ℕ, ◌/◌, ◌%◌, ◌≤◌, true, List, [], ◌∷◌, ◌++◌, length, is_ok, Result}
-use Rattle.std.specs.List.{flat_map, AllByRecursion as All}
+use Rattle.std.specs.List.{flat_map, AllByRecursion}
 use Rattle.files.specs.declared.fault.ListFault.{ListFault}
 use Rattle.tasks.specs.List.{Row, rows, listed}
 use Rattle.tasks.specs.declared.list.TaskList.{TaskList}
@@ -67,7 +67,7 @@ Fits (note b) = length b ≤ 255
 
 pub record ListFile (bs : List ℕ) (rs : List Row) : Type 0 where
   pub items : List Item
-  pub fit : All Fits items
+  pub fit : AllByRecursion Fits items
   pub tasks : item_rows items ≡ rs
   pub few : length rs ≤ 32
   pub bytes : bs ≡ flat_map item_bytes items ++ end_record (length rs)

@@ -13,7 +13,7 @@
 --   PlanFile l bs rs  bs is a plan file for the list l, and its rows are rs
 --   ReadsPlanFiles l bs new a     reading bs for l answers a, and is accepted exactly if bs is a plan file for l; the plan `new` then has its rows
 use Rattle.std.specs.Prelude.{◌≡◌, ℕ, suc, ◌≤◌, true, List, [], ◌∷◌, ◌++◌, map, length, is_ok, Result}
-use Rattle.std.specs.List.{AllByRecursion as All}
+use Rattle.std.specs.List.{AllByRecursion}
 use Rattle.files.specs.Layout.{two_bytes, laid, note_record, end_record}
 use Rattle.files.specs.PlanDecoding.{PlanRow, plan_rows}
 use Rattle.files.specs.declared.fault.PlanFileFault.{PlanFileFault}
@@ -64,7 +64,7 @@ Fits (note b) = length b ≤ 255
 
 pub record PlanFile (l : TaskList) (bs : List ℕ) (rs : List PlanRow) : Type 0 where
   pub items : List PlanItem
-  pub fit : All Fits items
+  pub fit : AllByRecursion Fits items
   pub rows : item_rows items ≡ rs
   pub rules : KeepsRules l rs
   pub bytes : bs ≡ items_bytes 0 items ++ end_record (length rs)
