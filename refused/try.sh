@@ -1,6 +1,6 @@
 #!/usr/bin/env bash
 # Tries each program of this folder in a copy of the libraries outside the tree. The first line of a program says what must come
-# of it: `accepted`, or the name of the compiler's error, which has to stand in the program itself.
+# of it: `accepted`, or the name of the compiler's error, which has to stand in the program itself. Nothing is proved here.
 set -euo pipefail
 root=$(cd "$(dirname "$0")/.." && pwd)
 copy=$(mktemp -d)
@@ -9,7 +9,10 @@ trap 'rm -rf "$copy"' EXIT
 libraries="tasks analysis planning"
 mkdir -p "$copy/crates/tried/src"
 for name in $libraries; do
-    cp -r "$root/crates/$name" "$copy/crates/$name"
+    mkdir "$copy/crates/$name"
+    for folder in src specs proofs; do
+        cp -r "$root/crates/$name/$folder" "$copy/crates/$name/$folder"
+    done
     grep "^$name:" "$root/crates.txt" >>"$copy/crates.txt"
 done
 echo "tried: $libraries" >>"$copy/crates.txt"
@@ -19,8 +22,8 @@ for program in "$root"/refused/*.txt; do
     expected=$(sed -n '1s,^// expect: ,,p' "$program")
     cp "$program" "$copy/crates/tried/src/main.rt"
     status=0
-    (cd "$copy" && rt mir tried) >"$copy/said" 2>&1 || status=$?
-    found=$(sed -n 's,^.*/crates/tried/src/main.rt:[0-9:]* error\[\([a-z0-9-]*\)\].*$,\1,p' "$copy/said" | head -n 1)
+    (cd "$copy/crates/tried" && rt try) >"$copy/said" 2>&1 || status=$?
+    found=$(sed -n 's,^src/main.rt:[0-9:]* error\[\([a-z0-9-]*\)\].*$,\1,p' "$copy/said" | head -n 1)
     if [ "$status" -eq 0 ]; then found=accepted; fi
     if [ -n "$expected" ] && [ "$found" = "$expected" ]; then
         echo "refused/$(basename "$program"): $found"

@@ -9,6 +9,7 @@ use files::program::Outcome;
 use files::program::calls::plan_file;
 use std::io;
 use std::io::{Read, Write};
+use std::process::ExitCode;
 
 // One byte more than the longest list file, so that a longer one shows.
 const INPUT_ROOM: usize = 8_193;
@@ -32,18 +33,18 @@ fn read_input(rt: &HostRuntime, buffer: &mut [u8]) -> io::Result<usize>
     Ok(len)
 }
 
-fn main(rt: HostRuntime) -> anyhow::Result<()> {
+fn main(rt: HostRuntime) -> anyhow::Result<ExitCode> {
     let mut input = [0u8; INPUT_ROOM];
     let mut output = [0u8; OUTPUT_ROOM];
     let len = read_input(&rt, &mut input)?;
     match plan_file(&input[0..len], &mut output) {
         Ok(Outcome::Planned(printed)) => {
             rt.stdout().write_all(&output[0..printed])?;
-            Ok(())
+            Ok(ExitCode::SUCCESS)
         }
         Ok(Outcome::Refused(printed)) => {
             rt.stdout().write_all(&output[0..printed])?;
-            Err(anyhow!("refused"))
+            Ok(ExitCode::FAILURE)
         }
         Err(_) => Err(anyhow!("no room for the output")),
     }

@@ -10,7 +10,7 @@ use Rattle.tasks.proofs.Reading.{listed_few}
 use Rattle.tasks.proofs.SetLaws.{bits_below, bit_zero}
 use Rattle.analysis.specs.Question.{Premises}
 use Rattle.planning.specs.Orders.{above_in}
-use Rattle.planning.specs.Plans.{size, above}
+use Rattle.planning.specs.Plans.{size, rank_of, above}
 use Rattle.planning.specs.declared.plan.Plan.{Plan}
 
 pub flag_le : (b : Bool) → cond b 1 0 ≤ 1
@@ -78,6 +78,15 @@ rank_premises l rs k h =
 module _ (p : Plan) where
   pub long : length (take (size p) p.ranks) ≡ size p
   long = length-take-le (size p) p.ranks (omega (arith, listed_few p.list, p.sizes))
+
+  -- bit j of the tasks above k: a listed task of greater rank
+  pub above_bit : (k j : ℕ) → j < size p → bit (above p k) j ≡ cond (ltb (rank_of p k) (rank_of p j)) 1 0
+  unfolding above
+  above_bit k j h = rank_bit (size p) p.ranks (rank_of p k) j h
+
+  pub above_below : (k : ℕ) → above p k < 2 ^ size p
+  unfolding above
+  above_below k = rank_below (size p) p.ranks (rank_of p k)
 
   pub above_premises : (k : ℕ) → k < size p → Premises p.list (above p k) k
   unfolding above
