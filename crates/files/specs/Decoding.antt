@@ -1,13 +1,13 @@
 -- What the bytes of a list file say.
 --
---   end_fault size at k n     what is wrong with an end record at the place `at` that counts n, after k tasks, in a file of `size` bytes
+--   end_fault size at k n      what is wrong with an end record at the place `at` that counts n, after k tasks, in a file of `size` bytes
 --   unless_task o rs, unless_bytes o rs  the rows rs, unless there is a fault o
---   takes size at rs s        the rows after the record s at the place `at`, where rs are the rows before it, or what is wrong with it
---   goes_on o t e more        a fault o, or the rows t that a record leaves: with them reading ends if e, and else goes on by `more`
---   decoded_from n bs at rs   the rows of the file bs, read on from the place `at` with the rows rs before it, in at most n records
---   decoded bs                the rows of the list file bs, or what is wrong with it
---   Takes size at s old new a    taking the record s at the place `at` turns the open list `old` into `new` and answers its length a
---   Reads bs old new a        reading the bytes bs answers a, and turns the lent list `old` into `new`
+--   takes size at rs s         the rows after the record s at the place `at`, where rs are the rows before it, or what is wrong with it
+--   goes_on o t e more         a fault o, or the rows t that a record leaves: with them reading ends if e, and else goes on by `more`
+--   decoded_from n bs at rs    the rows of the file bs, read on from the place `at` with the rows rs before it, in at most n records
+--   decoded bs                 the rows of the list file bs, or what is wrong with it
+--   Takes size at s old new a  taking the record s at the place `at` turns the open list `old` into `new` and answers its length a
+--   Reads bs old new a         reading the bytes bs answers a, and turns the lent list `old` into `new`
 use Rattle.std.specs.Prelude.{◌≡◌, ℕ, zero, suc, ◌+◌, Bool, true, false, cond, not, List, [], ◌∷◌, ◌++◌, length, drop, is_ok, Some, None, Ok, Err, Option, Result, MatchResult, ◌==◌, nat_lt}
 use Rattle.files.specs.Format.{Said, task, note, end, plan, is_end, head_fault, size, first}
 use Rattle.files.specs.declared.fault.ByteFault.{ByteFault}

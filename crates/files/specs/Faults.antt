@@ -1,8 +1,8 @@
 -- What the faults of files tell.
 --
---   byte_refusal f    number, layer and place of the byte fault f
---   list_refusal f    those of a list file's fault: of its bytes, or of one of its tasks
---   plan_file_refusal f   those of a plan file's fault: of its bytes, or of one of its rows
+--   byte_refusal f       number, layer and place of the byte fault f
+--   list_refusal f       those of a list file's fault: of its bytes, or of one of its tasks
+--   plan_file_refusal f  those of a plan file's fault: of its bytes, or of one of its rows
 use Rattle.std.specs.Prelude.{ℕ}
 use Rattle.files.specs.declared.fault.ByteFault.{ByteFault}
 use Rattle.files.specs.declared.fault.ByteFault.TheVariants.{TooLong, CutOff, WrongMark, WrongKind, WrongLength, WrongCount, BytesAfterEnd, ShortBuffer}

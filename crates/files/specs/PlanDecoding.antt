@@ -1,22 +1,22 @@
 -- What the bytes of a plan file say, for a closed list l.
 --
---   PlanRow, new_plan_row r h  what a plan says of a task: its rank r and its hold h
---   rows_of rs hs               the rows with the ranks rs and the holds hs
---   rows_below m rs hs         those of the first m ranks and holds
---   open_rows p, plan_rows p    the rows of the open plan p so far, and of the plan p, in task order
---   used_in rs r               one of the rows rs has the rank r
---   next_fits l rs k           k is the number of the row after rs, and is listed
---   rank_fits l rs r           r is from 1 to the number of tasks, and none of the rows rs has it
---   hold_fits l k h            h is below the deadline of task k, and 0 if that is ASAP
+--   PlanRow, new_plan_row r h      what a plan says of a task: its rank r and its hold h
+--   rows_of rs hs                  the rows with the ranks rs and the holds hs
+--   rows_below m rs hs             those of the first m ranks and holds
+--   open_rows p, plan_rows p       the rows of the open plan p so far, and of the plan p, in task order
+--   used_in rs r                   one of the rows rs has the rank r
+--   next_fits l rs k               k is the number of the row after rs, and is listed
+--   rank_fits l rs r               r is from 1 to the number of tasks, and none of the rows rs has it
+--   hold_fits l k h                h is below the deadline of task k, and 0 if that is ASAP
 --   plan_row_fault l rs at k r h   what is wrong with the row (k, r, h) after the rows rs, if anything is; the fault names the place `at`
 --   plan_end_fault l size at rs n  what is wrong with an end record that counts n after the rows rs: rows are missing, the count is wrong, bytes follow
 --   unless_row o rs, unless_bytes o rs  the rows rs, unless there is a fault o
---   takes_row l size at rs s   the rows after the record s at the place `at`, where rs are the rows before it, or what is wrong with it
---   plan_goes_on o t e more    a fault o, or the rows t that a record leaves: with them reading ends if e, and else goes on by `more`
---   plan_from n l bs at rs     the rows of the file bs, read on from the place `at` with the rows rs before it, in at most n records
---   decoded_plan l bs          the rows of the plan file bs, or what is wrong with it
+--   takes_row l size at rs s       the rows after the record s at the place `at`, where rs are the rows before it, or what is wrong with it
+--   plan_goes_on o t e more        a fault o, or the rows t that a record leaves: with them reading ends if e, and else goes on by `more`
+--   plan_from n l bs at rs         the rows of the file bs, read on from the place `at` with the rows rs before it, in at most n records
+--   decoded_plan l bs              the rows of the plan file bs, or what is wrong with it
 --   TakesRow size at s old new a    taking the record s at the place `at` turns the open plan `old` into `new` and answers how many rows it has
---   ReadsPlan l bs old new a   reading the bytes bs for the list l answers a, and turns the lent plan `old` into `new`
+--   ReadsPlan l bs old new a       reading the bytes bs for the list l answers a, and turns the lent plan `old` into `new`
 use Rattle.std.specs.Prelude.{◌≡◌, ℕ, zero, suc, ◌+◌, Bool, true, false, cond, not, ◌&&◌, ◌||◌, List, [], ◌∷◌, ◌++◌, length, take, drop, is_ok, Some, None, Ok, Err, Option, Result, MatchResult, ◌==◌, nat_le, nat_lt}
 use Rattle.files.specs.Decoding.{end_fault}
 use Rattle.files.specs.Format.{Said, task, note, end, plan, is_end, head_fault, size, first}

@@ -1,19 +1,19 @@
 -- What a log counts, from its releases. A release makes a job, which is due a deadline later.
 --
---   sum_below n f        f 0 + f 1 + .. + f (n - 1)
---   count_if b           1 if b, else 0
---   served_in k xs       the ticks among the entries xs that ran task k
---   finished_in k xs     a finish of task k is among the entries xs
---   up_to_tick d xs      of the entries xs, oldest first, those up to the d-th tick, and that tick
---   due_by p k xs        the due tick of a job of task k has come with the entries xs after its release, oldest first
---   kept_by p k xs       it has come, and by then the job had run its charge, or a finish of it was accepted
+--   sum_below n f         f 0 + f 1 + .. + f (n - 1)
+--   count_if b            1 if b, else 0
+--   served_in k xs        the ticks among the entries xs that ran task k
+--   finished_in k xs      a finish of task k is among the entries xs
+--   up_to_tick d xs       of the entries xs, oldest first, those up to the d-th tick, and that tick
+--   due_by p k xs         the due tick of a job of task k has come with the entries xs after its release, oldest first
+--   kept_by p k xs        it has come, and by then the job had run its charge, or a finish of it was accepted
 --   per_release f k xs l  how many releases of task k in l have f of what came after; xs is what came after l, oldest first
 --   releases_of k l, due_of p k l, kept_of p k l    the jobs of task k that were released, came due, were kept
 --   released_in p l, due_in p l, kept_in p l    the same of all listed tasks
---   missed_in p l        the jobs that came due and were not kept
---   idle_in l            the ticks that ran nothing
---   awaits p k l         a job of task k was released and its due tick has not come: 1 or 0
---   awaited p l          how many listed tasks have such a job
+--   missed_in p l         the jobs that came due and were not kept
+--   idle_in l             the ticks that ran nothing
+--   awaits p k l          a job of task k was released and its due tick has not come: 1 or 0
+--   awaited p l           how many listed tasks have such a job
 use Rattle.std.specs.Prelude.{ℕ, zero, suc, ◌+◌, ◌-◌, Bool, true, false, cond, ◌&&◌, ◌||◌, List, [], ◌∷◌, Some, None, ◌==◌, nat_le, nat_lt}
 use Rattle.planning.specs.Logs.{Entry, released, finished, ran, Log, now, is_for, known, age}
 use Rattle.planning.specs.Plans.{size, charge_of, deadline_of}

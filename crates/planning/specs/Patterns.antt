@@ -1,16 +1,16 @@
 -- The demanding pattern on a task: every task of at least its rank becomes ready at the same tick, and is released again as soon as
 -- it may be. It is made by offering releases, at each tick, of all of these tasks; those that come too soon are refused.
 --
---   longest_hold p n     the longest hold of the tasks below n
---   lead p               the tick at which all become ready: the longest hold of all
---   offered p i t k      task k has at least the rank of task i, and with a release at tick t its hold does not end before `lead`
+--   longest_hold p n      the longest hold of the tasks below n
+--   lead p                the tick at which all become ready: the longest hold of all
+--   offered p i t k       task k has at least the rank of task i, and with a release at tick t its hold does not end before `lead`
 --   offers_below p i t n  the releases that are offered at tick t, of the tasks below n
---   pattern_to p i t     the events of the first t ticks
---   pattern p i          the events up to the due tick of the first job of task i
---   longest_run          no such pattern has more ticks
---   Demanding p i        the pattern on task i ends with the due tick of its first job, long before the clock does; and if no job is missed in it, in some number
---                        of ticks, which after its hold is at most its deadline, the demand of task i is met
---   PatternsDemand       that holds of every listed task of every plan
+--   pattern_to p i t      the events of the first t ticks
+--   pattern p i           the events up to the due tick of the first job of task i
+--   longest_run           no such pattern has more ticks
+--   Demanding p i         the pattern on task i ends with the due tick of its first job, long before the clock does; and if no job is missed in it, in some number
+--                         of ticks, which after its hold is at most its deadline, the demand of task i is met
+--   PatternsDemand        that holds of every listed task of every plan
 use Rattle.std.specs.Prelude.{◌≡◌, ℕ, zero, suc, ◌+◌, ◌-◌, ◌<◌, ◌≤◌, max, Bool, cond, ◌&&◌, List, [], ◌∷◌, ◌++◌, nat_le}
 use Rattle.analysis.specs.Demand.{demand}
 use Rattle.planning.specs.Counts.{due_in, kept_in}

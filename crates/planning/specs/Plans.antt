@@ -1,7 +1,7 @@
 -- Plans: what can be read of one, and when it is good.
 --
 --   size p             how many tasks the plan p has
---   rank_of p k         the rank of task k; a greater rank goes first
+--   rank_of p k        the rank of task k; a greater rank goes first
 --   held_for p k       the hold of task k
 --   charge_of p k, deadline_of p k, period_of p k    what a job of task k asks for, when it is due, how far releases lie apart
 --   above p k          the set of the tasks of greater rank than task k

@@ -1,10 +1,10 @@
 -- Plans of lists that are written out, by the definitions alone.
 --
---   task_of n p c q     the task with these parts, where they keep the limits
---   list_of ts          the closed list of the tasks ts
---   standing_list      the standing list
---   bounds_from l rs k n   the responses of n tasks of l from task k on, each below the tasks of greater rank by the ranks rs
---   Standing           the standing list's plan
+--   task_of n p c q       the task with these parts, where they keep the limits
+--   list_of ts            the closed list of the tasks ts
+--   standing_list         the standing list
+--   bounds_from l rs k n  the responses of n tasks of l from task k on, each below the tasks of greater rank by the ranks rs
+--   Standing              the standing list's plan
 use Rattle.std.specs.Prelude.{◌≡◌, ℕ, zero, suc, ◌-◌, T, List, [], ◌∷◌, ◌++◌, length, take, replicate, Some, codes, Option, ◌==◌, nat_le, slice_index}
 use Rattle.std.proofs.Common.{leb→le, eqb→eq}
 use Rattle.tasks.specs.List.{listed, rows, filler}

@@ -4,7 +4,7 @@
 --   task_if ts k            task k of the tasks ts, if there is one
 --   task_at l k             task k of the closed list l; past its end some task that keeps the limits
 --   Row, row t, rows ts     what there is to know of a task: name, preference as a number, cost, period
---   new_row n p c q          the row that is handed in
+--   new_row n p c q         the row that is handed in
 --   limit_fault at p c q    what is wrong with the numbers of a row, if anything is; the fault names the place `at`
 --   add_fault k at r        what is wrong with adding the row r to a list of k tasks, if anything is
 --   Adds at r old new a     adding the row r, refused at the place `at`, turns `old` into `new` and answers a

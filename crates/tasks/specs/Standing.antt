@@ -1,7 +1,7 @@
 -- The standing list.
 --
 --   standing     its rows: name, preference (0 ASAP, 1 ALAP), cost, period
---   row_of t      the row that the table's row t stands for
+--   row_of t     the row that the table's row t stands for
 use Rattle.std.specs.Prelude.{List, [], ◌∷◌, take, codes}
 use Rattle.tasks.specs.List.{Row, new_row}
 use Rattle.tasks.specs.declared.standing.StandingRow.{StandingRow}

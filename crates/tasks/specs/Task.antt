@@ -3,7 +3,7 @@
 --   preference_of n       the preference that the number n stands for, if it stands for one
 --   preference_number p   the number that stands for p
 --   name_fits bs          bs can be a name: it has 1 to 16 bytes
---   name_of n              the bytes of the name n
+--   name_of n             the bytes of the name n
 use Rattle.std.specs.Prelude.{ℕ, zero, suc, Bool, ◌&&◌, List, length, take, Some, None, Option, nat_le}
 use Rattle.tasks.specs.declared.task.Name.{Name}
 use Rattle.tasks.specs.declared.task.Preference.{Preference}
