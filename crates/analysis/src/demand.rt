@@ -1,7 +1,6 @@
 // The demand of a task below a set of tasks.
 ghost use Rattle.std.specs.Prelude.{◌≡◌, ◌*◌, ◌^◌, ◌<◌, length};
-ghost use Rattle.analysis.specs.Demand.{ceil};
-ghost use Rattle.analysis.specs.Demand.{demand as demand_of};
+ghost use Rattle.analysis.specs.Demand.{ceil, demand as demand_of};
 ghost use Rattle.tasks.specs.List.{listed};
 
 use tasks::list::TaskList;

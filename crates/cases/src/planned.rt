@@ -23,7 +23,7 @@ fn leaves(rt: &impl Abort, answer: Result<Tally, PlanFault>, expected: Tally) ->
         Err(PlanFault::LeftOver(tally)) => {
             assert_eq!(rt; tally, expected);
             Ok(())
-        },
+        }
     }
 }
 

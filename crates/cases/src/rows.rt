@@ -20,7 +20,7 @@ fn refuses(rt: &impl Abort, answer: Result<(), RowFault>, number: u8) -> Result<
                 }
             );
             Ok(())
-        },
+        }
     }
 }
 

@@ -11,7 +11,7 @@ pub(crate) fn plans(rt: &impl Abort, input: &[u8], expected: &[u8]) -> Result<()
         Ok(Outcome::Planned(len)) => {
             assert!(rt; &out[0..len] == expected);
             Ok(())
-        },
+        }
         _ => Err(Fail::new("no plan")),
     }
 }
@@ -23,7 +23,7 @@ pub(crate) fn refuses(rt: &impl Abort, input: &[u8], expected: &[u8]) -> Result<
         Ok(Outcome::Refused(len)) => {
             assert!(rt; &out[0..len] == expected);
             Ok(())
-        },
+        }
         _ => Err(Fail::new("not refused")),
     }
 }

@@ -1,7 +1,6 @@
 // The steps of a queue over plain memory: the first `count` places hold the elements.
 ghost use Rattle.std.specs.Prelude.{◌≡◌, ◌+◌, ◌-◌, ◌<◌, ◌≤◌, ◌∷◌, ◌++◌, length, take, drop};
-ghost use Rattle.queue.specs.Sequences.{first};
-ghost use Rattle.queue.specs.Sequences.{insertion, is_same, drop_one, holds, laid, Finds};
+ghost use Rattle.queue.specs.Sequences.{first, insertion, is_same, drop_one, holds, laid, Finds};
 
 use crate::order::Ordered;
 

@@ -1,6 +1,5 @@
 // Which records a file may have, how long they are, and what their bodies say.
-ghost use Rattle.files.specs.Format.{kind_fits, length_fits, said, view};
-ghost use Rattle.files.specs.Format.{number as number_of};
+ghost use Rattle.files.specs.Format.{kind_fits, length_fits as length_fits_of, number as number_of, said, view};
 ghost use Rattle.std.specs.Prelude.{◌≡◌, true, length};
 
 use super::{END, FileKind, NOTE, PLAN_ROW, Record, TASK};
@@ -19,7 +18,7 @@ impl FileKind {
 
 // Whether the body of a record of this kind may have so many bytes.
 pub(crate) fn length_fits(kind: u8, len: u8) -> bool
-    ensures { result ≡ length_fits kind len }
+    ensures { result ≡ length_fits_of kind len }
 {
     match kind {
         TASK => len >= 6 && len <= 21,
@@ -39,7 +38,7 @@ fn number(high: u8, low: u8) -> u16
 impl<'a> Record<'a> {
     // The record of this kind with this body.
     pub(crate) fn with_body(kind: u8, body: &'a [u8]) -> Record<'a>
-        requires { length_fits kind (length body.now) ≡ true }
+        requires { length_fits_of kind (length body.now) ≡ true }
         ensures { view result ≡ said kind body.now }
     {
         match kind {

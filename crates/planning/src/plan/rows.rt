@@ -1,6 +1,6 @@
 // Making a plan row by row, by hand or from a file.
 ghost use Rattle.std.specs.Prelude.{◌≡◌, ◌<◌, length, replicate};
-ghost use Rattle.planning.specs.Rows.{used_below, rank_fits, prompt_fits, hold_fits, RowTaken, Closed};
+ghost use Rattle.planning.specs.Rows.{used_below, rank_fits as rank_fits_of, prompt_fits as prompt_fits_of, hold_fits as hold_fits_of, RowTaken, Closed};
 ghost use Rattle.tasks.specs.List.{listed};
 
 use super::{OpenPlan, Plan};
@@ -10,7 +10,7 @@ use tasks::task::Preference;
 
 // Whether a task of this preference may have the hold: an ASAP task is not held.
 fn prompt_fits(preference: Preference, hold: u16) -> bool
-    ensures { result ≡ prompt_fits preference hold }
+    ensures { result ≡ prompt_fits_of preference hold }
 {
     match preference {
         Preference::Asap => hold == 0,
@@ -50,7 +50,7 @@ impl OpenPlan {
 
     // Whether the next row may have the rank.
     fn rank_fits(&self, rank: u8) -> bool
-        ensures { result ≡ rank_fits self.now rank }
+        ensures { result ≡ rank_fits_of self.now rank }
     {
         rank >= 1 && usize::from(rank) <= self.list.len() && !self.rank_used(rank)
     }
@@ -58,7 +58,7 @@ impl OpenPlan {
     // Whether a listed task may have the hold.
     fn hold_fits(&self, task: usize, hold: u16) -> bool
         requires { task < length (listed self.now.list) }
-        ensures { result ≡ hold_fits self.now task hold }
+        ensures { result ≡ hold_fits_of self.now task hold }
     {
         let row = self.list.tasks()[task];
         hold < row.period && prompt_fits(row.preference, hold)

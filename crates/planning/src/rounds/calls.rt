@@ -1,11 +1,10 @@
 // One search of a round, a round, and the rounds of planning.
 ghost use Rattle.std.specs.Prelude.{◌≡◌, ℕ, ◌+◌, ◌*◌, ◌<◌, ◌≤◌, length};
 ghost use Rattle.analysis.specs.Question.{Premises};
-ghost use Rattle.planning.specs.Rounds.{asks, candidate, considered, hold_of, placed_in, begun, planned};
 ghost use Rattle.planning.specs.Choices.{Stuck};
 ghost use Rattle.planning.specs.Drafts.{Drafted};
 ghost use Rattle.planning.specs.Passing.{RoundPlaces};
-ghost use Rattle.planning.specs.Rounds.{search as search_of, round as round_of};
+ghost use Rattle.planning.specs.Rounds.{asks, candidate, considered, search as search_of, round as round_of, hold_of, placed_in, begun, planned};
 ghost use Rattle.tasks.specs.List.{listed, task_at};
 ghost use Rattle.tasks.specs.Set.{bit, without};
 
