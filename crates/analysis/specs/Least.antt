@@ -43,7 +43,7 @@ least_exists f from (suc n) b lo hi p =
     (cases_Bool (f from))
 
 pub least_some : (f : ℕ → Bool) (from n r : ℕ) → least f from n ≡ Some r → Leastly f from n r
-least_some f from zero r e = absurd (let z : ◌≡◌ {A = ℕ} 0 1 = cc in omega arith)
+least_some f from zero r e = cc
 least_some f from (suc n) r e =
     ⊎_elim
     (λ (t : f from ≡ true).
@@ -67,6 +67,6 @@ least_all f from n e t lo hi =
     (λ (p : f t ≡ true).
     let some = least_exists f from n t lo hi p in
     let clash : Some some.0 ≡ None = sym some.1 ∙ e in
-    absurd (let z : ◌≡◌ {A = ℕ} 0 1 = cc in omega arith))
+    cc)
     (λ m. m)
     (cases_Bool (f t))

@@ -1,6 +1,6 @@
 -- The whole-period test keeps the laws of tests: its bound falls with the demand, and the demand in fewer ticks than the deadline is
 -- no more than the demand over it. Assumes nothing.
-use Rattle.std.specs.Prelude.{◌≡◌, ℕ, ◌<◌, ◌≤◌, true, false, leb, Some, None, nat_le}
+use Rattle.std.specs.Prelude.{◌≡◌, ℕ, ◌<◌, ◌≤◌, true, false, Some, None, nat_le}
 use Rattle.std.proofs.Common.{sym, ◌∙◌, ⊎_elim, arith}
 use Rattle.std.proofs.lemmas.Bool.{cases_Bool, cond-true, cond-false, leb-true, le-leb, lt-leb}
 use Rattle.tasks.specs.List.{task_at}
@@ -19,13 +19,13 @@ within_none d limit h = cond-false (nat_le d limit) (Some d) None (lt-leb d limi
 within_some : (d limit b : ℕ) → within d limit ≡ Some b → (b ≡ d) × (d ≤ limit)
 within_some d limit b e =
     ⊎_elim
-    (λ (t : leb d limit ≡ true).
+    (λ (t : nat_le d limit ≡ true).
     let both : Some d ≡ Some b = sym (cond-true (nat_le d limit) (Some d) None t) ∙ e in
     let same : d ≡ b = cc in
     (sym same, leb-true d limit t))
-    (λ (f : leb d limit ≡ false).
+    (λ (f : nat_le d limit ≡ false).
     let clash : None ≡ Some b = sym (cond-false (nat_le d limit) (Some d) None f) ∙ e in
-    absurd (let z : ◌≡◌ {A = ℕ} 0 1 = cc in omega arith))
+    cc)
     (cases_Bool (nat_le d limit))
 
 pub whole_fewer : (l : TaskList) (a S i b : ℕ) → Within a S → whole_period l S i ≡ Some b → (c : ℕ) × (whole_period l a i ≡ Some c) × (c ≤ b)

@@ -21,7 +21,7 @@ no_fault f at bs s = simp (le-ltb (length bs) 4 s.long, s.mark, s.kind, s.fits, 
 
 -- where the first of two checks finds nothing, nothing is left but the second
 passed : (b : Bool) (x : ByteFault) (o : Option ByteFault) → cond b (Some x) o ≡ None → (b ≡ false) × (o ≡ None)
-passed true x o e = absurd (let z : ◌≡◌ {A = ℕ} 0 1 = cc in omega arith)
+passed true x o e = cc
 passed false x o e = (refl, e)
 
 pub sound : (f : FileKind) (at : ℕ) (bs : List ℕ) → head_fault f at bs ≡ None → Sound f bs

@@ -31,16 +31,16 @@ bytes_take n bs h i =
 
 -- each check that passed, of those of a task row
 pub passed : {F : Type 0} (b : Bool) (x : F) (o : Option F) → cond b (Some x) o ≡ None → (b ≡ false) × (o ≡ None)
-passed true x o e = absurd (let z : ◌≡◌ {A = ℕ} 0 1 = cc in omega arith)
+passed true x o e = cc
 passed false x o e = (refl, e)
 
 passed_last : {F : Type 0} (b : Bool) (x : F) → cond b None (Some x) ≡ None → b ≡ true
 passed_last true x e = refl
-passed_last false x e = absurd (let z : ◌≡◌ {A = ℕ} 0 1 = cc in omega arith)
+passed_last false x e = cc
 
 neither : (a b : Option TaskFault) → or_else a b ≡ None → (a ≡ None) × (b ≡ None)
 neither None b e = (refl, e)
-neither (Some f) b e = absurd (let z : ◌≡◌ {A = ℕ} 0 1 = cc in omega arith)
+neither (Some f) b e = cc
 
 positive : (n : ℕ) → (n ≡ 0 → ⊥) → 1 ≤ n
 positive zero h = absurd (h refl)
@@ -68,14 +68,14 @@ row_kept k at r e =
 
 task_ok : (o : Option TaskFault) (rs mid : List Row) → unless_task o rs ≡ Ok mid → (o ≡ None) × (rs ≡ mid)
 task_ok None rs mid e = (refl, cc)
-task_ok (Some f) rs mid e = absurd (let z : ◌≡◌ {A = ℕ} 0 1 = cc in omega arith)
+task_ok (Some f) rs mid e = cc
 
 end_ok : (o : Option ByteFault) (rs mid : List Row) → unless_bytes o rs ≡ Ok mid → (o ≡ None) × (rs ≡ mid)
 end_ok None rs mid e = (refl, cc)
-end_ok (Some f) rs mid e = absurd (let z : ◌≡◌ {A = ℕ} 0 1 = cc in omega arith)
+end_ok (Some f) rs mid e = cc
 
 ok_short : (b : Bool) (f : ListFault) (t : Result (List Row) ListFault) (rs : List Row) → cond b (Err f) t ≡ Ok rs → (b ≡ false) × (t ≡ Ok rs)
-ok_short true f t rs e = absurd (let z : ◌≡◌ {A = ℕ} 0 1 = cc in omega arith)
+ok_short true f t rs e = cc
 ok_short false f t rs e = (refl, e)
 
 -- how reading goes on from a record to rows: the record was the end, or what follows it gives them
@@ -84,8 +84,8 @@ Follows true more mid out = mid ≡ out
 Follows false more mid out = more mid ≡ Ok out
 
 on_ok : (o : Option ByteFault) (t : Result (List Row) ListFault) (e : Bool) (more : List Row → Result (List Row) ListFault) (out : List Row) → goes_on o t e more ≡ Ok out → (o ≡ None) × ((mid : List Row) × (t ≡ Ok mid) × Follows e more mid out)
-on_ok (Some f) t e more out h = absurd (let z : ◌≡◌ {A = ℕ} 0 1 = cc in omega arith)
-on_ok None (Err f) e more out h = absurd (let z : ◌≡◌ {A = ℕ} 0 1 = cc in omega arith)
+on_ok (Some f) t e more out h = cc
+on_ok None (Err f) e more out h = cc
 on_ok None (Ok mid) true more out h = (refl, (mid, refl, cc))
 on_ok None (Ok mid) false more out h = (refl, (mid, refl, h))
 
@@ -185,7 +185,7 @@ by_kind (suc (suc (suc (suc k)))) b ys size at rs mid out more bytes kind fits t
     absurd (omega (arith, leb-true (suc (suc (suc (suc k)))) 3 (and_parts _ _ kind).1))
 
 rest_laid : (n : ℕ) (bs : List ℕ) (at : ℕ) (rs out : List Row) → Bytes bs → length rs ≤ 32 → decoded_from n bs at rs ≡ Ok out → Rest (drop at bs) rs out
-rest_laid zero bs at rs out bytes few e = absurd (let z : ◌≡◌ {A = ℕ} 0 1 = cc in omega arith)
+rest_laid zero bs at rs out bytes few e = cc
 rest_laid (suc n) bs at rs out bytes few e =
     let xs = drop at bs in
     let on = on_ok (head_fault ListKind at xs) (takes (length bs) at rs (first xs)) (is_end (first xs)) (decoded_from n bs (at + size xs)) out e in
@@ -226,5 +226,5 @@ accepted bs new bytes e = record {
 pub refused : (bs : List ℕ) (new : TaskList) (f : ListFault) → decoded bs ≡ Err f → ReadsFiles bs new (Err f)
 refused bs new f e = record {
   only_files = λ t. absurd (true≢false (sym t));
-  all_files = λ rs g. absurd (let same = file_decodes bs rs g in let z : ◌≡◌ {A = ℕ} 0 1 = cc in omega arith);
+  all_files = λ rs g. absurd (let same = file_decodes bs rs g in cc);
 }

@@ -51,12 +51,12 @@ faulty (suc n) l bs at rs f enough e =
 
 -- an end record is taken only after the last row
 no_fault_full : (b : Bool) (f : ByteFault) (o : Option ByteFault) (rs new : List PlanRow) → unless_bytes (cond b (Some f) o) rs ≡ Ok new → b ≡ false
-no_fault_full true f o rs new e = absurd (let z : ◌≡◌ {A = ℕ} 0 1 = cc in omega arith)
+no_fault_full true f o rs new e = cc
 no_fault_full false f o rs new e = refl
 
 unless_same : (o : Option ByteFault) (rs new : List PlanRow) → unless_bytes o rs ≡ Ok new → rs ≡ new
 unless_same None rs new e = cc
-unless_same (Some f) rs new e = absurd (let z : ◌≡◌ {A = ℕ} 0 1 = cc in omega arith)
+unless_same (Some f) rs new e = cc
 
 full_at_end : (l : TaskList) (n at : ℕ) (rs new : List PlanRow) (s : Said) → takes_row l n at rs s ≡ Ok new → is_end s ≡ true → length (listed l) ≤ length new
 full_at_end l n at rs new (task p c q name) taken e = absurd (true≢false (sym e))

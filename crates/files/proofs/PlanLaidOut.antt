@@ -21,14 +21,14 @@ use Rattle.planning.specs.declared.plan.Plan.{Plan}
 
 row_ok : (o : Option RowFault) (rs mid : List PlanRow) → unless_row o rs ≡ Ok mid → (o ≡ None) × (rs ≡ mid)
 row_ok None rs mid e = (refl, cc)
-row_ok (Some f) rs mid e = absurd (let z : ◌≡◌ {A = ℕ} 0 1 = cc in omega arith)
+row_ok (Some f) rs mid e = cc
 
 end_ok : (o : Option ByteFault) (rs mid : List PlanRow) → unless_bytes o rs ≡ Ok mid → (o ≡ None) × (rs ≡ mid)
 end_ok None rs mid e = (refl, cc)
-end_ok (Some f) rs mid e = absurd (let z : ◌≡◌ {A = ℕ} 0 1 = cc in omega arith)
+end_ok (Some f) rs mid e = cc
 
 ok_short : (b : Bool) (f : PlanFileFault) (t : Result (List PlanRow) PlanFileFault) (rs : List PlanRow) → cond b (Err f) t ≡ Ok rs → (b ≡ false) × (t ≡ Ok rs)
-ok_short true f t rs e = absurd (let z : ◌≡◌ {A = ℕ} 0 1 = cc in omega arith)
+ok_short true f t rs e = cc
 ok_short false f t rs e = (refl, e)
 
 -- how reading goes on from a record to rows: the record was the end, or what follows it gives them
@@ -37,8 +37,8 @@ Follows true more mid out = mid ≡ out
 Follows false more mid out = more mid ≡ Ok out
 
 on_ok : (o : Option ByteFault) (t : Result (List PlanRow) PlanFileFault) (e : Bool) (more : List PlanRow → Result (List PlanRow) PlanFileFault) (out : List PlanRow) → plan_goes_on o t e more ≡ Ok out → (o ≡ None) × ((mid : List PlanRow) × (t ≡ Ok mid) × Follows e more mid out)
-on_ok (Some f) t e more out h = absurd (let z : ◌≡◌ {A = ℕ} 0 1 = cc in omega arith)
-on_ok None (Err f) e more out h = absurd (let z : ◌≡◌ {A = ℕ} 0 1 = cc in omega arith)
+on_ok (Some f) t e more out h = cc
+on_ok None (Err f) e more out h = cc
 on_ok None (Ok mid) true more out h = (refl, (mid, refl, cc))
 on_ok None (Ok mid) false more out h = (refl, (mid, refl, h))
 
@@ -112,7 +112,7 @@ by_kind (suc (suc (suc (suc (suc k))))) b ys l size at rs mid out more bytes kin
     absurd (omega (arith, leb-true (suc (suc (suc (suc (suc k))))) 4 (and_parts _ _ kind).1))
 
 rest_laid : (n : ℕ) (l : TaskList) (bs : List ℕ) (at : ℕ) (rs out : List PlanRow) → Bytes bs → plan_from n l bs at rs ≡ Ok out → Rest (drop at bs) rs out
-rest_laid zero l bs at rs out bytes e = absurd (let z : ◌≡◌ {A = ℕ} 0 1 = cc in omega arith)
+rest_laid zero l bs at rs out bytes e = cc
 rest_laid (suc n) l bs at rs out bytes e =
     let xs = drop at bs in
     let on = on_ok (head_fault PlanKind at xs) (takes_row l (length bs) at rs (first xs)) (is_end (first xs)) (plan_from n l bs (at + size xs)) out e in
@@ -152,5 +152,5 @@ accepted l bs new bytes e = record {
 pub refused : (l : TaskList) (bs : List ℕ) (new : Plan) (f : PlanFileFault) → decoded_plan l bs ≡ Err f → ReadsPlanFiles l bs new (Err f)
 refused l bs new f e = record {
   only_files = λ t. absurd (true≢false (sym t));
-  all_files = λ rs g. absurd (let same = file_decodes l bs rs g in let z : ◌≡◌ {A = ℕ} 0 1 = cc in omega arith);
+  all_files = λ rs g. absurd (let same = file_decodes l bs rs g in cc);
 }

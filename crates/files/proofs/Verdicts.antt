@@ -1,5 +1,5 @@
 -- What the program's input comes to, from what reading and planning answered. Assumes nothing.
-use Rattle.std.proofs.Common.{◌≡◌, ℕ, true, false, eqb, List, Ok, Err, Result, sym, refl, ap, ◌∙◌, subst, ⊎_elim, arith, MatchResult}
+use Rattle.std.proofs.Common.{◌≡◌, ℕ, true, false, eqb, List, Ok, Err, Result, sym, refl, ap, ◌∙◌, subst, ⊎_elim, MatchResult}
 use Rattle.std.proofs.lemmas.Bool.{cases_Bool, cond-true, cond-false, eqb-true, eqb-false}
 use Rattle.tasks.specs.List.{rows, listed}
 use Rattle.tasks.specs.declared.list.TaskList.{TaskList}
@@ -25,7 +25,7 @@ answered_ok t u e =
     (eqb-true u.left 0 none, same))
     (λ (some : eqb u.left 0 ≡ false).
     let clash : Ok t ≡ Err (LeftOver u) = e ∙ cond-false (eqb u.left 0) (Ok u) (Err (LeftOver u)) some in
-    absurd (let z : ◌≡◌ {A = ℕ} 0 1 = cc in omega arith))
+    cc)
     (cases_Bool (eqb u.left 0))
 
 answered_err : (f : PlanFault) (u : Tally) → Err f ≡ answered u → (u.left ≡ 0 → ⊥) × (f ≡ LeftOver u)
@@ -33,7 +33,7 @@ answered_err f u e =
     ⊎_elim
     (λ (none : eqb u.left 0 ≡ true).
     let clash : Err f ≡ Ok u = e ∙ cond-true (eqb u.left 0) (Ok u) (Err (LeftOver u)) none in
-    absurd (let z : ◌≡◌ {A = ℕ} 0 1 = cc in omega arith))
+    cc)
     (λ (some : eqb u.left 0 ≡ false).
     let both : ◌≡◌ {A = Result Tally PlanFault} (Err f) (Err (LeftOver u)) = e ∙ cond-false (eqb u.left 0) (Ok u) (Err (LeftOver u)) some in
     let same : f ≡ LeftOver u = cc in

@@ -7,10 +7,8 @@
 --   Over old new         the end record was shown: the reader `old` has no record left, and stays as it is
 --   Refuses old new f    what stands at the reader `old` has the fault f, and the reader stays as it is
 --   Nexts old new a      asking `old` for the next record answers a and leaves `new`
-use Rattle.std.specs.Prelude.{◌≡◌, ℕ, ◌+◌, true, false, List, drop, Some, None, Option, Result, slice_index}
+use Rattle.std.specs.Prelude.{◌≡◌, ℕ, ◌+◌, true, false, List, drop, Some, None, Option, Result, MatchOption, MatchResult, slice_index}
 use Rattle.std.specs.Borrow.{Bor}
-use Rattle.std.specs.Option as options
-use Rattle.std.specs.Result as results
 use Rattle.files.specs.Format.{Said, view, is_end, head_fault, body, size, first}
 use Rattle.files.specs.declared.fault.ByteFault.{ByteFault}
 use Rattle.files.specs.declared.reader.Reader.{Reader}
@@ -22,7 +20,7 @@ left r = drop r.at r.bytes.now
 
 abbrev pub ReadsHead : FileKind → ℕ → List ℕ → Result (ℕ × Bor (List ℕ)) ByteFault → Type 0
 ReadsHead f at bs a =
-    results.MatchResult a (λ h. (head_fault f at bs ≡ None) × (h.0 ≡ slice_index bs 2) × (h.1.now ≡ body bs)) (λ e. head_fault f at bs ≡ Some e)
+    MatchResult a (λ h. (head_fault f at bs ≡ None) × (h.0 ≡ slice_index bs 2) × (h.1.now ≡ body bs)) (λ e. head_fault f at bs ≡ Some e)
 
 pub record Begins (r : Reader) (bs : List ℕ) (at : ℕ) (f : FileKind) : Type 0 where
   pub bytes : r.bytes.now ≡ bs
@@ -49,4 +47,4 @@ pub record Refuses (old new : Reader) (f : ByteFault) : Type 0 where
 
 pub record Nexts (old new : Reader) (answer : Result (Option (ℕ × Record)) ByteFault) : Type 0 where
   pub file : (new.bytes.now ≡ old.bytes.now) × (new.kind ≡ old.kind)
-  pub answered : results.MatchResult answer (λ o. options.MatchOption o (Over old new) (λ p. Shown old new p.0 (view p.1))) (λ f. Refuses old new f)
+  pub answered : MatchResult answer (λ o. MatchOption o (Over old new) (λ p. Shown old new p.0 (view p.1))) (λ f. Refuses old new f)

