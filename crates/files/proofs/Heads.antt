@@ -39,9 +39,6 @@ sound f at bs e =
       whole = ltb-false _ _ g.0;
     }
 
-pub part_is : (bs : List ℕ) (n : ℕ) → take (n - 0) (take (length bs - 4) (drop 4 bs)) ≡ take n (drop 4 bs)
-part_is bs n = ap (λ xs. take (n - 0) xs) (take_rest bs 4) ∙ ap (λ k. take k (drop 4 bs)) (omega arith)
-
 pub length_body : (bs : List ℕ) → size bs ≤ length bs → length (body bs) ≡ get_or bs 3 0
 length_body bs h = length-take-le (get_or bs 3 0) (drop 4 bs) (omega (arith, length-drop 4 bs))
 

@@ -1,13 +1,21 @@
 -- The rows of a plan in the making, as a list: one more rank and hold are one more row at the end, a rank is used in the list
 -- exactly if it is used below the count, and so the list finds the same faults as the open plan. Assumes nothing.
-use Rattle.std.proofs.Common.{◌≡◌, ℕ, zero, suc, ◌+◌, ◌<◌, ◌≤◌, Bool, true, false, cond, not, ◌&&◌, ◌||◌, eqb, ltb, leb, List, [], ◌∷◌, ◌++◌, length, get_or, take, set, Some, None, sym, refl, ap, ◌∙◌, add-one, arith}
+use Rattle.std.proofs.Common.{◌≡◌, ℕ, zero, suc, ◌+◌, ◌<◌, ◌≤◌, Bool, true, false, cond, not, ◌&&◌, ◌||◌, eqb, ltb, leb, List, [], ◌∷◌, ◌++◌, length, get_or, take, set, Some, None, Ok, Err, sym, refl, ap, ◌∙◌, add-one, arith}
+use Rattle.std.proofs.lemmas.Bool.{lt-ltb, le-ltb}
 use Rattle.std.proofs.lemmas.List.{length-take-le, take_more, take_more_set}
-use Rattle.files.specs.PlanDecoding.{PlanRow, new_plan_row, rows_of, rows_below, open_rows, used_in, hold_fits, plan_row_fault}
+use Rattle.files.specs.Decoding.{unless, closes, end_fault, Ends}
+use Rattle.files.specs.Format.{Said, plan}
+use Rattle.files.specs.PlanFiles.{PlanRow, new_plan_row, rows_of, rows_below, open_rows, plan_rows, used_in, hold_fits, plan_row_fault, plan_adds, plan_rules, decoded_plan}
+use Rattle.files.specs.declared.fault.ByteFault.TheVariants.{WrongCount}
+use Rattle.files.specs.declared.fault.FileFault.TheVariants.{Bytes, Row}
 use Rattle.tasks.proofs.Reading.{listed_few}
 use Rattle.tasks.specs.List.{listed}
-use Rattle.planning.specs.Rows.{used_below, row_fault}
+use Rattle.tasks.specs.declared.list.TaskList.{TaskList}
+use Rattle.planning.specs.Rows.{used_below, row_fault, RowTaken, Same}
+use Rattle.planning.specs.declared.fault.RowFault.{RowFault}
 use Rattle.planning.specs.declared.fault.RowFault.TheVariants.{WrongTask, WrongRank, WrongHold}
 use Rattle.planning.specs.declared.plan.OpenPlan.{OpenPlan}
+use Rattle.planning.specs.declared.plan.Plan.{Plan}
 
 rows_push : (rs hs : List ℕ) (r h : ℕ) → length rs ≡ length hs → rows_of (rs ++ r ∷ []) (hs ++ h ∷ []) ≡ rows_of rs hs ++ new_plan_row r h ∷ []
 rows_push [] [] r h e = refl
@@ -69,3 +77,36 @@ fault_agrees p at k r h =
     λ i. cond (not (eqb k (rows_count p i) && ltb k n)) (Some (WrongTask at))
     (cond (not (leb 1 r && leb r n && not (used i))) (Some (WrongRank at))
     (cond (not (hold_fits p.list k h)) (Some (WrongHold at)) None))
+
+rows_after : (at k r h : ℕ) (old new : OpenPlan) (u : Unit {0}) → RowTaken at k r h old new (Ok u) → open_rows new ≡ open_rows old ++ new_plan_row r h ∷ []
+rows_after at k r h old new u t =
+    (λ i. rows_below (t.count i) (t.ranks i) (t.holds i))
+    ∙ below_set old.count old.ranks old.holds r h
+    (omega (arith, t.count, new.few, listed_few new.list, old.sizes.0))
+    (omega (arith, t.count, new.few, listed_few new.list, old.sizes.1))
+
+-- a record of a plan file, where it says a row
+pub row_taken : (at k r h : ℕ) (s : Said) (old new : OpenPlan) (u : Unit {0}) → s ≡ plan k r h → RowTaken at k r h old new (Ok u) → plan_adds old.list at (open_rows old) s ≡ Ok (open_rows new)
+row_taken at k r h s old new u says t =
+    ap (plan_adds old.list at (open_rows old)) says
+    ∙ ap (λ o. unless o (new_plan_row r h) (open_rows old)) (fault_agrees old at k r h ∙ t.says)
+    ∙ ap (λ rs. Ok rs) (sym (rows_after at k r h old new u t))
+
+pub row_refused : (at k r h : ℕ) (s : Said) (old new : OpenPlan) (f : RowFault) → s ≡ plan k r h → RowTaken at k r h old new (Err f) → plan_adds old.list at (open_rows old) s ≡ Err (Row f)
+row_refused at k r h s old new f says t =
+    ap (plan_adds old.list at (open_rows old)) says ∙ ap (λ o. unless o (new_plan_row r h) (open_rows old)) (fault_agrees old at k r h ∙ t.says)
+
+-- the end record, where rows are missing
+pub rows_missing : (l : TaskList) (bs : List ℕ) (p : OpenPlan) (at n : ℕ) → p.list ≡ l → Ends (plan_rules l) bs (open_rows p) at n → p.count < length (listed p.list) → decoded_plan l bs ≡ Err (Bytes (WrongCount at))
+rows_missing l bs p at n same e missing =
+    let some : length (open_rows p) < length (listed l) = omega (arith, rows_count p, ap (λ x. length (listed x)) same) in
+    e ∙ ap (λ b. closes (end_fault b (length bs) at (length (open_rows p)) n) (open_rows p)) (lt-ltb (length (open_rows p)) (length (listed l)) some)
+
+-- and where none is
+pub rows_whole : (l : TaskList) (bs : List ℕ) (p : OpenPlan) (q : Plan) (at n : ℕ) → p.list ≡ l → Ends (plan_rules l) bs (open_rows p) at n → (p.count ≡ length (listed p.list)) × Same p q → decoded_plan l bs ≡ closes (end_fault false (length bs) at (length (listed l)) n) (plan_rows q)
+rows_whole l bs p q at n same e c =
+    let all : length (open_rows p) ≡ length (listed l) = rows_count p ∙ c.0 ∙ ap (λ x. length (listed x)) same in
+    let size : p.count ≡ length (listed q.list) = c.0 ∙ ap (λ x. length (listed x)) (sym c.1.list) in
+    e
+    ∙ ap (λ b. closes (end_fault b (length bs) at (length (open_rows p)) n) (open_rows p)) (le-ltb (length (open_rows p)) (length (listed l)) (omega arith))
+    ∙ (λ i. closes (end_fault false (length bs) at (all i) n) (rows_below (size i) (sym c.1.ranks i) (sym c.1.holds i)))

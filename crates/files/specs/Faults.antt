@@ -6,14 +6,14 @@
 use Rattle.std.specs.Prelude.{ℕ}
 use Rattle.files.specs.declared.fault.ByteFault.{ByteFault}
 use Rattle.files.specs.declared.fault.ByteFault.TheVariants.{TooLong, CutOff, WrongMark, WrongKind, WrongLength, WrongCount, BytesAfterEnd, ShortBuffer}
-use Rattle.files.specs.declared.fault.ListFault.{ListFault}
-use Rattle.files.specs.declared.fault.ListFault.TheVariants.{Bytes, Task}
-use Rattle.files.specs.declared.fault.PlanFileFault.{PlanFileFault}
-use Rattle.files.specs.declared.fault.PlanFileFault.TheVariants as plan_file
+use Rattle.files.specs.declared.fault.FileFault.{FileFault}
+use Rattle.files.specs.declared.fault.FileFault.TheVariants.{Bytes, Row}
 use Rattle.planning.specs.Faults.{row_refusal}
 use Rattle.tasks.specs.Faults.{task_refusal}
 use Rattle.tasks.specs.declared.fault.Layer.TheVariants.{Bytes as ByteLayer}
 use Rattle.tasks.specs.declared.fault.Refusal.{Refusal}
+use Rattle.tasks.specs.declared.fault.TaskFault.{TaskFault}
+use Rattle.planning.specs.declared.fault.RowFault.{RowFault}
 
 abbrev told : ℕ → ℕ → Refusal
 told n p = record { number = n; layer = ByteLayer; place = p }
@@ -28,10 +28,13 @@ byte_refusal (WrongCount p) = told 11 p
 byte_refusal (BytesAfterEnd p) = told 12 p
 byte_refusal (ShortBuffer p) = told 21 p
 
-abbrev pub list_refusal : ListFault → Refusal
-list_refusal (Bytes f) = byte_refusal f
-list_refusal (Task f) = task_refusal f
+-- what a file's fault tells, where `row` says what a fault of one of its rows does
+abbrev pub file_refusal : {F : Type 0} → (F → Refusal) → FileFault F → Refusal
+file_refusal row (Bytes f) = byte_refusal f
+file_refusal row (Row f) = row f
 
-abbrev pub plan_file_refusal : PlanFileFault → Refusal
-plan_file_refusal (plan_file.Bytes f) = byte_refusal f
-plan_file_refusal (plan_file.Row f) = row_refusal f
+abbrev pub list_refusal : FileFault TaskFault → Refusal
+list_refusal = file_refusal task_refusal
+
+abbrev pub plan_file_refusal : FileFault RowFault → Refusal
+plan_file_refusal = file_refusal row_refusal

@@ -6,21 +6,25 @@ pub(crate) const MARK_FIRST: u8 = 0xa7;
 
 pub(crate) const MARK_SECOND: u8 = 0x5e;
 
-// The kinds of records: a task, a note, the end record, a row of a plan.
-pub(crate) const TASK: u8 = 1;
-
-pub(crate) const NOTE: u8 = 2;
-
-pub(crate) const END: u8 = 3;
-
-pub(crate) const PLAN_ROW: u8 = 4;
-
 // What a file holds: a list of tasks, or a plan for one.
 #[derive(Clone, Copy, PartialEq, Eq, Debug)]
 pub enum FileKind {
     List,
     Plan,
 }
+
+// The kinds of records: a task, a note, the end record, a row of a plan.
+#[derive(Clone, Copy, PartialEq, Eq, Debug)]
+pub(crate) enum Kind {
+    Task,
+    Note,
+    End,
+    Plan,
+}
+
+// A number that no kind of record has.
+#[derive(Clone, Copy, PartialEq, Eq, Debug)]
+pub(crate) struct UnknownKind;
 
 // A record, with what its body says; names and notes are borrowed from the file.
 #[derive(Clone, Copy)]
