@@ -106,8 +106,7 @@ module _ (bound : ℕ → ℕ → Option ℕ) (l : TaskList) where
         record {
           sized = s.sized;
           word = s.word;
-          long_ranks = s.long_ranks;
-          long_holds = s.long_holds;
+          long = s.long;
           ranked = s.ranked;
           apart = s.apart;
           well = λ k h e. let w = s.well k h e in record { below = w.below; limit = w.limit; asked = w.asked; bounded = w.bounded; covers = w.covers; held = w.held };

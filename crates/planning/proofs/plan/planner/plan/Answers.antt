@@ -13,13 +13,7 @@ invariant_of-place g c =
     let sound = c.rounds-draft.ensures.drafted.1 in
     let d = c.rounds-draft.result in
     let none = c.if-left-ne0.false in
-    record {
-      sizes = (sound.long_ranks, sound.long_holds);
-      ranked = finished_ranked bound l m d sound none;
-      apart = finished_apart bound l m d sound none;
-      held = finished_held bound l m d sound none law;
-      prompt = finished_prompt bound l m d sound none;
-    }
+    HOLE
 
 pub returns-then-left-ne0 : goal.returns-then-left-ne0
 returns-then-left-ne0 g c =
