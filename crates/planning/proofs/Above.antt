@@ -1,7 +1,7 @@
 -- The set of the tasks above a rank, bit by bit, and the step of the loop that makes it. Assumes nothing.
-use Rattle.std.proofs.Common.{◌≡◌, ℕ, zero, suc, ◌+◌, ◌*◌, ◌/◌, ◌^◌, ◌<◌, ◌≤◌, Bool, true, false, cond, ltb, List, [], ◌∷◌, ◌++◌, length, get_or, take, drop, sym, refl, ap, ◌∙◌, pow-suc, mul_assoc, subst, arith, pow_mono}
-use mir.Val.{bool_byte}
-use Rattle.std.proofs.lemmas.List.{length-take, length-map, take_all, get_or-take}
+use Rattle.std.proofs.Common.{◌≡◌, ℕ, zero, suc, ◌+◌, ◌*◌, ◌/◌, ◌%◌, ◌^◌, ◌<◌, ◌≤◌, Bool, true, false, cond, ltb, List, [], ◌∷◌, ◌++◌, length, get_or, take, drop, sym, refl, ap, ◌∙◌, pow-suc, mul_assoc, one-mul, zero-mul, mod-eq_of_lt, add-one, subst, arith, pow_mono}
+use Rattle.std.proofs.lemmas.List.{length-take, length-take-le, take_more, length-map, take_all, get_or-take}
+use Rattle.std.proofs.lemmas.Nat.{pow_pos}
 use Rattle.std.proofs.lemmas.Bool.{le-ltb, lt-ltb}
 use Rattle.tasks.specs.List.{listed}
 use Rattle.tasks.specs.Set.{bit}
@@ -31,11 +31,34 @@ bit_above (x ∷ xs) r (suc j) =
 -- one task more at the end
 pub above_more : (xs : List ℕ) (x r : ℕ) → above_in (xs ++ x ∷ []) r ≡ above_in xs r + cond (ltb r x) 1 0 * 2 ^ length xs
 above_more [] x r = omega arith
-above_more (y ∷ xs) x r = omega (arith, above_more xs x r, pow-suc 2 (length xs), mul_assoc (cond (ltb r x) 1 0) 2 (2 ^ length xs))
+above_more (y ∷ xs) x r =
+    let power = ap (λ p. cond (ltb r x) 1 0 * p) (pow-suc 2 (length xs)) in
+    omega (arith, above_more xs x r, power, mul_assoc (cond (ltb r x) 1 0) (2 ^ length xs) 2, mul_assoc (cond (ltb r x) 1 0) 2 (2 ^ length xs))
 
-pub flag_is : (b : Bool) → bool_byte b ≡ cond b 1 0
-flag_is true = refl
-flag_is false = refl
+-- the set of the first k of at most 32 tasks, and the next one as a power of two
+module _ (xs : List ℕ) (r k set : ℕ) (here : k < length xs) (few : length xs ≤ 32) (so_far : set ≡ above_in (take k xs) r) where
+  power : 1 * 2 ^ k % 4294967296 ≡ 2 ^ k
+  power =
+      let short : k + 1 ≤ 32 = omega (arith, here, few) in
+      let below : 2 ^ k < 4294967296 = omega (arith, pow_mono short, pow-suc 2 k, ap (λ j. 2 ^ j) (add-one k), pow_pos k) in
+      omega (arith, mod-eq_of_lt below)
+
+  count : length (take k xs) ≡ k
+  count = length-take-le k xs (omega (arith, here))
+
+  next : above_in (take (k + 1) xs) r ≡ above_in (take k xs) r + cond (ltb r (get_or xs k 0)) 1 0 * 2 ^ k
+  next = ap (λ ys. above_in ys r) (take_more xs k 0 here) ∙ above_more (take k xs) (get_or xs k 0) r ∙ ap (λ n. above_in (take k xs) r + cond (ltb r (get_or xs k 0)) 1 0 * 2 ^ n) count
+
+  pub above_fits : set + 1 * 2 ^ k % 4294967296 < 2 ^ 32
+  above_fits =
+      let short : k + 1 ≤ 32 = omega (arith, here, few) in
+      omega (arith, so_far, power, above_word (take k xs) r, ap (λ n. 2 ^ n) count, pow_mono short, pow-suc 2 k, ap (λ j. 2 ^ j) (add-one k))
+
+  pub above_taken : r < get_or xs k 0 → set + 1 * 2 ^ k % 4294967296 ≡ above_in (take (k + 1) xs) r
+  above_taken more = omega (arith, so_far, power, next, ap (λ b. cond b 1 0 * 2 ^ k) (lt-ltb r (get_or xs k 0) more), one-mul (2 ^ k))
+
+  pub above_passed : get_or xs k 0 ≤ r → set ≡ above_in (take (k + 1) xs) r
+  above_passed less = omega (arith, so_far, next, ap (λ b. cond b 1 0 * 2 ^ k) (le-ltb r (get_or xs k 0) less), zero-mul (2 ^ k))
 
 -- ---- the ranks of n tasks, and the tasks of rank above r
 

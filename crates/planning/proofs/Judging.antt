@@ -1,12 +1,25 @@
 -- What judging a task needs: it is in time exactly if the response that is found fits after the hold. Assumes nothing.
-use Rattle.std.proofs.Common.{◌≡◌, ℕ, ◌+◌, ◌<◌, cond, ltb, leb, Some, None, Decides, Option, sym, ◌∙◌, arith}
-use Rattle.std.proofs.lemmas.Bool.{lt-ltb, cond-true, leb-true, le-leb}
+use Rattle.std.proofs.Common.{◌≡◌, ℕ, ◌+◌, ◌<◌, true, false, ⊎_elim, cond, ltb, leb, Some, None, Decides, Option, sym, ◌∙◌, arith}
+use Rattle.std.proofs.lemmas.Bool.{cases_Bool, lt-ltb, ltb-true, cond-true, cond-false, leb-true, le-leb}
 use Rattle.tasks.specs.List.{task_at}
 use Rattle.analysis.specs.Demand.{deadline}
 use Rattle.analysis.specs.Response.{response}
 use Rattle.analysis.specs.ResponseLaws.{response_is, response_some}
 use Rattle.planning.specs.Plans.{list_of, size, held_for, above, InTime}
 use Rattle.planning.specs.declared.plan.Plan.{Plan}
+
+-- what is looked up at a number k is there, if k is below n
+pub looked_up : (k n v w : ℕ) → Some v ≡ cond (ltb k n) (Some w) None → (k < n) × (v ≡ w)
+looked_up k n v w e =
+    ⊎_elim
+    (λ (here : ltb k n ≡ true).
+    let both : Some v ≡ Some w = e ∙ cond-true (ltb k n) (Some w) None here in
+    let same : v ≡ w = cc in
+    (ltb-true k n here, same))
+    (λ (past : ltb k n ≡ false).
+    let clash : Some v ≡ None = e ∙ cond-false (ltb k n) (Some w) None past in
+    cc)
+    (cases_Bool (ltb k n))
 
 module _ (p : Plan) (k : ℕ) (h : k < size p) where
   found : (o : Option ℕ) → o ≡ cond (ltb k (size p)) (response (list_of p) (above p k) k) None → o ≡ response (list_of p) (above p k) k

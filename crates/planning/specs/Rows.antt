@@ -7,7 +7,8 @@
 --   plan_row_fault l rs at k r h  what is wrong with the row (k, r, h) after the rows rs, if anything is; the fault names the place `at`
 --   RowTaken at k r p q a         taking the row r of task k turns the open plan p into q and answers a
 --   Closed p o                    closing p gives o: none while rows are missing, and else the plan that p is
-use Rattle.std.specs.Prelude.{◌≡◌, ℕ, ◌<◌, Bool, true, false, cond, not, ◌&&◌, ◌||◌, List, [], ◌∷◌, ◌++◌, length, is_ok, Some, None, Option, Result, MatchOption, MatchResult, ◌==◌, nat_le, nat_lt}
+use Rattle.std.specs.Prelude.{◌≡◌, ℕ, ◌<◌, Bool, true, false, cond, not, ◌&&◌, List, [], ◌∷◌, ◌++◌, length, is_ok, Some, None, Option, Result, MatchOption, MatchResult, ◌==◌, nat_le, nat_lt}
+use Rattle.std.specs.List.{list_any}
 use Rattle.tasks.specs.List.{listed, task_at}
 use Rattle.tasks.specs.declared.list.TaskList.{TaskList}
 use Rattle.tasks.specs.declared.task.Preference.{Preference}
@@ -21,8 +22,7 @@ use Rattle.planning.specs.declared.plan.Plan.{Plan}
 use Rattle.planning.specs.declared.plan.Row.{Row}
 
 abbrev pub used_in : List Row → ℕ → Bool
-used_in [] r = false
-used_in (x ∷ xs) r = x.rank == r || used_in xs r
+used_in rs r = list_any (λ x. x.rank == r) rs
 
 abbrev pub next_fits : TaskList → List Row → ℕ → Bool
 next_fits l rs k = k == length rs && nat_lt k (length (listed l))
