@@ -1,12 +1,11 @@
 -- The set of the tasks above a rank, bit by bit, and the step of the loop that makes it. Assumes nothing.
-use Rattle.std.proofs.Common.{◌≡◌, ℕ, zero, suc, ◌+◌, ◌*◌, ◌/◌, ◌%◌, ◌^◌, ◌<◌, ◌≤◌, Bool, true, false, cond, ltb, List, [], ◌∷◌, ◌++◌, length, get_or, take, drop, sym, refl, ap, ◌∙◌, pow-suc, mul_assoc, one-mul, zero-mul, mod-eq_of_lt, add-one, subst, arith, pow_mono}
+use Rattle.std.proofs.Common.{◌≡◌, ℕ, zero, suc, ◌+◌, ◌*◌, ◌/◌, ◌%◌, ◌^◌, ◌<◌, ◌≤◌, Bool, true, false, cond, ltb, List, [], ◌∷◌, ◌++◌, length, get_or, take, sym, ap, ◌∙◌, pow-suc, mul_assoc, one-mul, zero-mul, mod-eq_of_lt, add-one, subst, arith, pow_mono}
 use Rattle.std.proofs.lemmas.List.{length-take, length-take-le, take_more, length-map, take_all, get_or-take}
 use Rattle.std.proofs.lemmas.Nat.{pow_pos}
 use Rattle.std.proofs.lemmas.Bool.{le-ltb, lt-ltb}
 use Rattle.tasks.specs.List.{listed}
 use Rattle.tasks.specs.Set.{bit}
 use Rattle.tasks.specs.declared.list.TaskList.{TaskList}
-use Rattle.tasks.proofs.Reading.{listed_few}
 use Rattle.tasks.proofs.SetLaws.{bits_below, bit_zero}
 use Rattle.analysis.specs.Question.{Premises}
 use Rattle.planning.specs.Orders.{ranks, above_in}

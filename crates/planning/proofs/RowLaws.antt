@@ -13,7 +13,7 @@ use Rattle.tasks.specs.declared.task.Preference.{Preference}
 use Rattle.tasks.specs.declared.task.Preference.TheVariants.{Asap, Alap}
 use Rattle.tasks.specs.declared.task.Task.{Task}
 use Rattle.analysis.specs.Demand.{deadline}
-use Rattle.planning.specs.Orders.{ranks, holds, Ranked, Apart, Held, Prompt, RowsKeep}
+use Rattle.planning.specs.Orders.{ranks, Apart, RowsKeep}
 use Rattle.planning.specs.Rows.{used_in, rank_fits, prompt_fits, hold_fits}
 use Rattle.planning.specs.declared.plan.Row.{Row}
 

@@ -77,7 +77,9 @@ impl Plan {
             return false;
         };
         let deadline = u32::from(asked.period);
-        self.hold(task).zip(self.response(task)).is_some_and(|(hold, ticks)| u32::from(hold) + u32::from(ticks) <= deadline)
+        self.hold(task).zip(self.response(task)).is_some_and(|(hold, ticks)| u32::from(hold)
+            + u32::from(ticks)
+            <= deadline)
     }
 
     // Whether every task has a response that, after its hold, is in time.

@@ -1,4 +1,4 @@
-use Rattle.std.proofs.Common.{◌≡◌, ◌<◌, true, length, sym, subst, ◌∙◌, arith}
+use Rattle.std.proofs.Common.{◌≡◌, ◌<◌, true, length, sym, subst, arith}
 use Rattle.fixed.specs.FixedVec.{elements}
 use Rattle.tasks.specs.List.{listed}
 use Rattle.tasks.proofs.Reading.{listed_few}

@@ -1,8 +1,8 @@
-use Rattle.std.proofs.Common.{◌≡◌, ◌+◌, ◌<◌, ◌≤◌, length, get_or, take, sym, ap, ◌∙◌, arith}
-use Rattle.std.proofs.lemmas.List.{get_or-map, length-map, take_all}
+use Rattle.std.proofs.Common.{◌≡◌, ◌<◌, ◌≤◌, length, get_or, sym, ap, ◌∙◌, arith}
+use Rattle.std.proofs.lemmas.List.{get_or-map, take_all}
 use Rattle.tasks.proofs.Reading.{listed_few}
 use Rattle.planning.specs.Orders.{ranks, no_row, above_in}
-use Rattle.planning.specs.Plans.{list_of, rows, size}
+use Rattle.planning.specs.Plans.{list_of, rows}
 use Rattle.planning.proofs.Above.{above_fits, above_taken, above_passed, long}
 use Rattle.planning.proofs.plan.Plan.above.Goals as goal
 use Rattle.planning.proofs.plan.Plan.above.Goals.{then-row-rank, else-row-rank}
