@@ -2,18 +2,17 @@
 use Rattle.std.proofs.Common.{◌≡◌, ℕ, suc, ◌+◌, ◌*◌, ◌<◌, ◌≤◌, List, [], ◌∷◌, ◌++◌, map, length, get_or, take, Ok, sym, refl, ap, ◌∙◌, arith, lit≤, length-append}
 use Rattle.std.proofs.lemmas.List.{append_assoc, append-nil, length-map, take_more, take_all, length-take-le}
 use Rattle.std.specs.List.{AllByRecursion}
-use Rattle.files.specs.Layout.{end_record, Item, row, rows_bytes, items_bytes, items_rows, encoded_by, Short, FileOf}
-use Rattle.files.specs.ListFiles.{task_record, decoded, encoded, ListFile}
-use Rattle.files.specs.PlanFiles.{PlanRow, new_plan_row, rows_below, plan_rows, decoded_plan, row_record, encoded_plan, PlanFile}
+use Rattle.files.specs.Layout.{end_record, row, rows_bytes, items_bytes, items_rows, encoded_by, Short, FileOf}
+use Rattle.files.specs.ListFiles.{task_record, decoded, encoded}
+use Rattle.files.specs.PlanFiles.{decoded_plan, row_record, encoded_plan}
 use Rattle.files.proofs.ListRows.{row_keeps, is_list, list_kept}
-use Rattle.files.proofs.PlanRows.{below_length, below_more}
-use Rattle.files.proofs.PlanRules.{room_of, size_of, plan_keeps, plan_kept}
+use Rattle.files.proofs.PlanRows.{plan_keeps, plan_kept}
 use Rattle.files.proofs.ReadsBack.{file_decodes}
 use Rattle.tasks.proofs.Reading.{listed_few}
 use Rattle.tasks.specs.List as tasks
 use Rattle.tasks.specs.declared.list.TaskList.{TaskList}
 use Rattle.tasks.specs.declared.task.Task.{Task}
-use Rattle.planning.specs.Plans.{size, rank_of, held_for}
+use Rattle.planning.specs.Plans.{list_of, rows}
 use Rattle.planning.specs.declared.plan.Plan.{Plan}
 
 module _ {R : Type 0} (f : ℕ → R → List ℕ) where
@@ -91,8 +90,8 @@ list_reads_back l =
 
 -- ---- plans
 
-pub plan_reads_back : (p : Plan) → decoded_plan p.list (encoded_plan (plan_rows p)) ≡ Ok (plan_rows p)
+pub plan_reads_back : (p : Plan) → decoded_plan (list_of p) (encoded_plan (rows p)) ≡ Ok (rows p)
 plan_reads_back p =
-    let rs = plan_rows p in
+    let rs = rows p in
     let few = rows_short row_record 8 0 rs (λ k r. lit≤ tt) in
-    file_decodes (plan_kept p.list) (encoded_plan rs) rs (is_file row_record _ rs (plan_keeps p) (omega (arith, size_of p, listed_few p.list)))
+    file_decodes (plan_kept (list_of p)) (encoded_plan rs) rs (is_file row_record _ rs (plan_keeps p) (omega (arith, p.full, listed_few (list_of p))))

@@ -10,4 +10,3 @@ pub mod Verdicts
 pub mod Encodes
 pub mod ListRows
 pub mod PlanRows
-pub mod PlanRules

@@ -1,13 +1,13 @@
 -- The rows of a list file: what was laid out of a row that keeps the limits is read as it, a record that adds a row was laid out of it,
 -- and the rows of a closed list keep the limits. Of its bytes it takes that they are below 256.
-use Rattle.std.proofs.Common.{◌≡◌, ℕ, zero, suc, ◌+◌, ◌-◌, ◌<◌, ◌≤◌, true, false, cond, List, [], ◌∷◌, ◌++◌, length, get_or, drop, Some, None, Ok, Option, sym, refl, ap, ◌∙◌, arith, lit≤, length-append}
+use Rattle.std.proofs.Common.{◌≡◌, ℕ, zero, suc, ◌<◌, ◌≤◌, true, List, [], ◌∷◌, ◌++◌, length, get_or, drop, Some, None, Ok, Option, refl, ap, ◌∙◌, arith, lit≤, length-append}
 use Rattle.std.proofs.lemmas.List.{length-take-le, length-map}
-use Rattle.std.proofs.lemmas.Bool.{le-leb, lt-leb, le-ltb, ne_eqb, leb-true, and_parts, and_from, true≢false}
+use Rattle.std.proofs.lemmas.Bool.{le-leb, lt-leb, le-ltb, ne_eqb, leb-true, and_parts, and_from}
 use Rattle.std.specs.List.{AllByRecursion}
 use Rattle.files.specs.Decoding.{unless}
 use Rattle.files.specs.Format.{number, kind_fits, length_fits, said}
 use Rattle.files.specs.Format as format
-use Rattle.files.specs.Layout.{laid, two_bytes}
+use Rattle.files.specs.Layout.{laid}
 use Rattle.files.specs.ListFiles.{list_adds, list_rules, task_body, task_record, KeepsLimits, IsList}
 use Rattle.files.specs.declared.record.FileKind.TheVariants.{List as ListKind}
 use Rattle.files.proofs.Kept.{Bytes, says_task, RowRecord, RowAdded, Kept}

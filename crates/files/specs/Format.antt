@@ -34,7 +34,7 @@ abbrev pub view : Record → Said
 view (Task p c q n) = task p c q n.now
 view (Note b) = note b.now
 view (End n) = end n
-view (Plan t r h) = plan t r h
+view (Plan t r) = plan t r.rank r.hold
 
 abbrev pub is_end : Said → Bool
 is_end (task p c q n) = false

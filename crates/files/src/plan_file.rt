@@ -1,18 +1,18 @@
 // Reading and writing a plan file.
-ghost use Rattle.std.specs.Prelude.{◌≡◌, ◌+◌, ◌<◌, ◌≤◌, ◌++◌, length, Ok, Err, MatchResult};
-ghost use Rattle.files.specs.PlanFiles.{PlanRow, new_plan_row, open_rows, plan_rows, plan_rules, decoded_plan, row_record, encoded_plan, ReadsPlan, ReadsPlanFiles};
+ghost use Rattle.std.specs.Prelude.{◌≡◌, Ok, Err, MatchResult};
+ghost use Rattle.files.specs.PlanFiles.{plan_rules, decoded_plan, row_record, encoded_plan, ReadsPlan, ReadsPlanFiles};
 ghost use Rattle.files.specs.Printing.{Writes};
-ghost use Rattle.files.specs.RowLaws.{same_list, same_list_on, same_plan_rules};
-ghost use Rattle.files.specs.Text.{written};
-ghost use Rattle.planning.specs.Plans.{size as size_of, rank_of, held_for};
+ghost use Rattle.files.specs.RowLaws.{same_list, same_list_on, same_plan_rules, row_short};
+ghost use Rattle.planning.specs.Plans.{open_rows, list_of, rows as rows_of};
+ghost use Rattle.planning.specs.declared.plan.Row.{Row as PlanRow};
 
 use crate::fault::{ByteFault, FileFault, PlanFileFault};
 use crate::gather::{Gather, gather_rows};
-use crate::lay::push_record;
+use crate::lay::{Lay, push_record, write_rows};
 use crate::record::{FileKind, Kind, Record};
 use crate::text::Text;
 use planning::fault::RowFault;
-use planning::plan::{OpenPlan, Plan};
+use planning::plan::{OpenPlan, Plan, Row};
 use tasks::list::TaskList;
 
 impl Gather for OpenPlan {
@@ -37,19 +37,30 @@ impl Gather for OpenPlan {
     }
 
     fn add_record(&mut self, at: u64, record: Record<'_>) -> Result<(), PlanFileFault> {
-        let Record::Plan { task, rank, hold } = record else {
+        let Record::Plan { task, row } = record else {
             return Err(FileFault::Bytes(ByteFault::WrongKind(at)));
         };
-        match self.row(at, usize::from(task), rank, hold) {
+        match self.row(at, usize::from(task), row) {
             Ok(()) => Ok(()),
             Err(fault) => Err(FileFault::Row(fault)),
         }
     }
 }
 
+impl Lay for Row {
+    ghost record_of = { row_record };
+
+    ghost short = { row_short };
+
+    fn push(&self, number: usize, text: &mut Text) {
+        let [h0, h1] = self.hold.to_be_bytes();
+        push_record(text, Kind::Plan, &[number as u8, self.rank, h0, h1], &[]);
+    }
+}
+
 // The plan that a plan file says for a list.
 fn plan_in(bytes: &[u8], list: &TaskList) -> Result<Plan, PlanFileFault>
-    ensures { MatchResult result (λ p. (decoded_plan list.now bytes.now ≡ Ok (plan_rows p)) × (p.list ≡ list.now)) (λ f. decoded_plan list.now bytes.now ≡ Err f) }
+    ensures { MatchResult result (λ p. (decoded_plan list.now bytes.now ≡ Ok (rows_of p)) × (list_of p ≡ list.now)) (λ f. decoded_plan list.now bytes.now ≡ Err f) }
 {
     let mut open = OpenPlan::begin(list);
     let end = gather_rows(bytes, &mut open)?;
@@ -69,28 +80,10 @@ pub fn read_plan(bytes: &[u8], list: &TaskList, place: &mut Plan) -> Result<(), 
     Ok(())
 }
 
-// Puts the record of a listed task's row behind the text.
-fn push_row(text: &mut Text, plan: &Plan, task: usize)
-    requires listed { task < size_of plan.now }
-    requires room { length (written text.old) + 25 ≤ 4096 }
-    ensures { written text.new ≡ written text.old ++ row_record task (new_plan_row (rank_of plan.now task) (held_for plan.now task)) }
-{
-    let rank = plan.rank(task).unwrap();
-    let hold = plan.hold(task).unwrap();
-    let [h0, h1] = hold.to_be_bytes();
-    push_record(text, Kind::Plan, &[task as u8, rank, h0, h1], &[]);
-}
-
 // Writes a plan file and answers its length. Refused, with nothing written, exactly if the buffer is shorter.
 pub fn write_plan(plan: &Plan, buffer: &mut [u8]) -> Result<usize, ByteFault>
-    ensures writes { Writes (encoded_plan (plan_rows plan.now)) buffer.old buffer.new result }
-    ensures reads_back { decoded_plan plan.now.list (encoded_plan (plan_rows plan.now)) ≡ Ok (plan_rows plan.now) }
+    ensures writes { Writes (encoded_plan (rows_of plan.now)) buffer.old buffer.new result }
+    ensures reads_back { decoded_plan (list_of plan.now) (encoded_plan (rows_of plan.now)) ≡ Ok (rows_of plan.now) }
 {
-    let tasks = plan.list().len();
-    let mut text = Text::new();
-    for task in 0..tasks {
-        push_row(&mut text, plan, task);
-    }
-    push_record(&mut text, Kind::End, &(tasks as u16).to_be_bytes(), &[]);
-    text.copy_to(buffer)
+    write_rows(plan.rows(), buffer)
 }

@@ -1,4 +1,6 @@
 // Files and their records.
+use planning::plan::Row;
+
 pub mod calls;
 
 // The two bytes that begin every record.
@@ -39,7 +41,6 @@ pub enum Record<'a> {
     End(u16),
     Plan {
         task: u8,
-        rank: u8,
-        hold: u16,
+        row: Row,
     },
 }

@@ -3,6 +3,7 @@ ghost use Rattle.files.specs.Format.{kind_number, kind_fits, length_fits, said, 
 ghost use Rattle.std.specs.Prelude.{◌≡◌, true, false, length, MatchOption};
 
 use super::{FileKind, Kind, Record, UnknownKind};
+use planning::plan::Row;
 
 impl TryFrom<u8> for Kind {
     type Error = UnknownKind;
@@ -76,8 +77,10 @@ impl<'a> Record<'a> {
             Kind::End => Record::End(u16::from_be_bytes([body[0], body[1]])),
             Kind::Plan => Record::Plan {
                 task: body[0],
-                rank: body[1],
-                hold: u16::from_be_bytes([body[2], body[3]]),
+                row: Row {
+                    rank: body[1],
+                    hold: u16::from_be_bytes([body[2], body[3]]),
+                },
             },
         }
     }
