@@ -1,10 +1,15 @@
 // Plans made row by row.
 use planning::fault::RowFault;
-use planning::plan::OpenPlan;
+use planning::plan::{OpenPlan, Row};
 use std::process::Abort;
 use std::test::Fail;
 use tasks::fault::{Layer, Refusal};
 use tasks::list::OpenList;
+
+// A row with this rank and this hold.
+fn row(rank: u8, hold: u16) -> Row {
+    Row { rank, hold }
+}
 
 // The refusal has this number, and the place that was given.
 fn refuses(rt: &impl Abort, answer: Result<(), RowFault>, number: u8) -> Result<(), Fail> {
@@ -31,16 +36,16 @@ fn by_rows(rt: HostRuntime) -> Result<(), Fail> {
     assert_eq!(rt; open.add(row(b"card", 1, 1, 10))?, 1);
     let list = open.close();
     let mut rows = OpenPlan::begin(&list);
-    refuses(&rt, rows.row(70, 1, 1, 0), 13)?;
-    refuses(&rt, rows.row(70, 0, 0, 0), 14)?;
-    refuses(&rt, rows.row(70, 0, 3, 0), 14)?;
-    refuses(&rt, rows.row(70, 0, 2, 1), 15)?;
-    rows.row(70, 0, 2, 0)?;
-    refuses(&rt, rows.row(70, 0, 1, 0), 13)?;
-    refuses(&rt, rows.row(70, 1, 2, 0), 14)?;
-    refuses(&rt, rows.row(70, 1, 1, 10), 15)?;
-    rows.row(70, 1, 1, 9)?;
-    refuses(&rt, rows.row(70, 2, 1, 0), 13)?;
+    refuses(&rt, rows.row(70, 1, row(1, 0)), 13)?;
+    refuses(&rt, rows.row(70, 0, row(0, 0)), 14)?;
+    refuses(&rt, rows.row(70, 0, row(3, 0)), 14)?;
+    refuses(&rt, rows.row(70, 0, row(2, 1)), 15)?;
+    rows.row(70, 0, row(2, 0))?;
+    refuses(&rt, rows.row(70, 0, row(1, 0)), 13)?;
+    refuses(&rt, rows.row(70, 1, row(2, 0)), 14)?;
+    refuses(&rt, rows.row(70, 1, row(1, 10)), 15)?;
+    rows.row(70, 1, row(1, 9))?;
+    refuses(&rt, rows.row(70, 2, row(1, 0)), 13)?;
     let Some(plan) = rows.close() else {
         return Err(Fail::new("rows are missing"));
     };
@@ -60,8 +65,8 @@ fn longest_hold(rt: HostRuntime) -> Result<(), Fail> {
     assert_eq!(rt; open.add(row(b"card", 1, 1, 10))?, 1);
     let list = open.close();
     let mut rows = OpenPlan::begin(&list);
-    rows.row(0, 0, 2, 0)?;
-    rows.row(1, 1, 1, 8)?;
+    rows.row(0, 0, row(2, 0))?;
+    rows.row(1, 1, row(1, 8))?;
     let Some(plan) = rows.close() else {
         return Err(Fail::new("rows are missing"));
     };

@@ -1,16 +1,15 @@
--- The set of the tasks above a rank, bit by bit, and the steps of the loop that makes it. Assumes nothing.
-use Rattle.std.proofs.Common.{◌≡◌, ℕ, zero, suc, ◌+◌, ◌*◌, ◌/◌, ◌^◌, ◌<◌, ◌≤◌, Bool, true, false, cond, ltb, List, [], ◌∷◌, length, get_or, take, drop, sym, refl, ap, ◌∙◌, pow-suc, arith, pow_mono}
-use mir.Val.{bool_byte}
-use Rattle.std.proofs.lemmas.List.{at_drop_more, at_drop_all, length-drop, length-take, length-take-le, get_or-take}
+-- The set of the tasks above a rank, bit by bit, and the step of the loop that makes it. Assumes nothing.
+use Rattle.std.proofs.Common.{◌≡◌, ℕ, zero, suc, ◌+◌, ◌*◌, ◌/◌, ◌%◌, ◌^◌, ◌<◌, ◌≤◌, Bool, true, false, cond, ltb, List, [], ◌∷◌, ◌++◌, length, get_or, take, sym, ap, ◌∙◌, pow-suc, mul_assoc, one-mul, zero-mul, mod-eq_of_lt, add-one, subst, arith, pow_mono}
+use Rattle.std.proofs.lemmas.List.{length-take, length-take-le, take_more, length-map, take_all, get_or-take}
+use Rattle.std.proofs.lemmas.Nat.{pow_pos}
 use Rattle.std.proofs.lemmas.Bool.{le-ltb, lt-ltb}
 use Rattle.tasks.specs.List.{listed}
 use Rattle.tasks.specs.Set.{bit}
 use Rattle.tasks.specs.declared.list.TaskList.{TaskList}
-use Rattle.tasks.proofs.Reading.{listed_few}
 use Rattle.tasks.proofs.SetLaws.{bits_below, bit_zero}
 use Rattle.analysis.specs.Question.{Premises}
-use Rattle.planning.specs.Orders.{above_in}
-use Rattle.planning.specs.Plans.{size, rank_of, above}
+use Rattle.planning.specs.Orders.{ranks, above_in}
+use Rattle.planning.specs.Plans.{list_of, rows, size, rank_of, above}
 use Rattle.planning.specs.declared.plan.Plan.{Plan}
 
 pub flag_le : (b : Bool) → cond b 1 0 ≤ 1
@@ -28,21 +27,37 @@ bit_above (x ∷ xs) r (suc j) =
     let half : (cond (ltb r x) 1 0 + 2 * above_in xs r) / 2 ≡ above_in xs r = omega (arith, flag_le (ltb r x)) in
     ap (λ s. bit s j) half ∙ bit_above xs r j
 
-pub above_more : (xs : List ℕ) (r k set flag : ℕ) → k < length xs → set ≡ above_in (drop (k + 1) xs) r → flag ≡ cond (ltb r (get_or xs k 0)) 1 0 → set * 2 + flag ≡ above_in (drop k xs) r
-above_more xs r k set flag h e f = omega (arith, at_drop_more (λ ys. above_in ys r) xs k 0 h)
+-- one task more at the end
+pub above_more : (xs : List ℕ) (x r : ℕ) → above_in (xs ++ x ∷ []) r ≡ above_in xs r + cond (ltb r x) 1 0 * 2 ^ length xs
+above_more [] x r = omega arith
+above_more (y ∷ xs) x r =
+    let power = ap (λ p. cond (ltb r x) 1 0 * p) (pow-suc 2 (length xs)) in
+    omega (arith, above_more xs x r, power, mul_assoc (cond (ltb r x) 1 0) (2 ^ length xs) 2, mul_assoc (cond (ltb r x) 1 0) 2 (2 ^ length xs))
 
-pub above_none : (xs : List ℕ) (r k : ℕ) → length xs ≤ k → 0 ≡ above_in (drop k xs) r
-above_none xs r k h = sym (at_drop_all (λ ys. above_in ys r) xs k h)
+-- the set of the first k of at most 32 tasks, and the next one as a power of two
+module _ (xs : List ℕ) (r k set : ℕ) (here : k < length xs) (few : length xs ≤ 32) (so_far : set ≡ above_in (take k xs) r) where
+  power : 1 * 2 ^ k % 4294967296 ≡ 2 ^ k
+  power =
+      let short : k + 1 ≤ 32 = omega (arith, here, few) in
+      let below : 2 ^ k < 4294967296 = omega (arith, pow_mono short, pow-suc 2 k, ap (λ j. 2 ^ j) (add-one k), pow_pos k) in
+      omega (arith, mod-eq_of_lt below)
 
--- with the first of 32 tasks still to come, there is room for one more bit
-pub above_room : (xs : List ℕ) (r k : ℕ) → length xs ≤ 32 → 0 < k → above_in (drop k xs) r < 2 ^ 31
-above_room xs r k h l =
-    let few : length (drop k xs) ≤ 31 = omega (arith, length-drop k xs) in
-    omega (arith, above_word (drop k xs) r, pow_mono few)
+  count : length (take k xs) ≡ k
+  count = length-take-le k xs (omega (arith, here))
 
-pub flag_is : (b : Bool) → bool_byte b ≡ cond b 1 0
-flag_is true = refl
-flag_is false = refl
+  next : above_in (take (k + 1) xs) r ≡ above_in (take k xs) r + cond (ltb r (get_or xs k 0)) 1 0 * 2 ^ k
+  next = ap (λ ys. above_in ys r) (take_more xs k 0 here) ∙ above_more (take k xs) (get_or xs k 0) r ∙ ap (λ n. above_in (take k xs) r + cond (ltb r (get_or xs k 0)) 1 0 * 2 ^ n) count
+
+  pub above_fits : set + 1 * 2 ^ k % 4294967296 < 2 ^ 32
+  above_fits =
+      let short : k + 1 ≤ 32 = omega (arith, here, few) in
+      omega (arith, so_far, power, above_word (take k xs) r, ap (λ n. 2 ^ n) count, pow_mono short, pow-suc 2 k, ap (λ j. 2 ^ j) (add-one k))
+
+  pub above_taken : r < get_or xs k 0 → set + 1 * 2 ^ k % 4294967296 ≡ above_in (take (k + 1) xs) r
+  above_taken more = omega (arith, so_far, power, next, ap (λ b. cond b 1 0 * 2 ^ k) (lt-ltb r (get_or xs k 0) more), one-mul (2 ^ k))
+
+  pub above_passed : get_or xs k 0 ≤ r → set ≡ above_in (take (k + 1) xs) r
+  above_passed less = omega (arith, so_far, next, ap (λ b. cond b 1 0 * 2 ^ k) (le-ltb r (get_or xs k 0) less), zero-mul (2 ^ k))
 
 -- ---- the ranks of n tasks, and the tasks of rank above r
 
@@ -76,18 +91,17 @@ rank_premises l rs k h =
 -- ---- the same of a plan
 
 module _ (p : Plan) where
-  pub long : length (take (size p) p.ranks) ≡ size p
-  long = length-take-le (size p) p.ranks (omega (arith, listed_few p.list, p.sizes))
+  pub long : length (ranks (rows p)) ≡ size p
+  long = length-map (rows p) (λ r. r.rank) ∙ p.full
 
-  -- bit j of the tasks above k: a listed task of greater rank
-  pub above_bit : (k j : ℕ) → j < size p → bit (above p k) j ≡ cond (ltb (rank_of p k) (rank_of p j)) 1 0
-  unfolding above
-  above_bit k j h = rank_bit (size p) p.ranks (rank_of p k) j h
+  all : take (size p) (ranks (rows p)) ≡ ranks (rows p)
+  all = take_all (size p) (ranks (rows p)) (omega (arith, long))
 
-  pub above_below : (k : ℕ) → above p k < 2 ^ size p
+  -- bit j of the tasks above k: a task of greater rank
+  pub above_bit : (k j : ℕ) → bit (above p k) j ≡ cond (ltb (rank_of p k) (rank_of p j)) 1 0
   unfolding above
-  above_below k = rank_below (size p) p.ranks (rank_of p k)
+  above_bit k j = bit_above (ranks (rows p)) (rank_of p k) j
 
-  pub above_premises : (k : ℕ) → k < size p → Premises p.list (above p k) k
+  pub above_premises : (k : ℕ) → k < size p → Premises (list_of p) (above p k) k
   unfolding above
-  above_premises k h = rank_premises p.list p.ranks k h
+  above_premises k h = subst (λ rs. Premises (list_of p) (above_in rs (rank_of p k)) k) all (rank_premises (list_of p) (ranks (rows p)) k h)

@@ -6,9 +6,9 @@ use Rattle.tasks.specs.declared.list.TaskList.{TaskList}
 use Rattle.tasks.specs.declared.task.Task.{Task}
 use Rattle.analysis.specs.Demand.{charge, ceil, load, demand}
 use Rattle.planning.specs.Counts.{sum_below, count_if}
-use Rattle.planning.specs.Plans.{size, rank_of, above, charge_of, period_of}
+use Rattle.planning.specs.Plans.{list_of, size, rank_of, above, charge_of, period_of}
 use Rattle.planning.specs.declared.plan.Plan.{Plan}
-use Rattle.planning.proofs.Above.{rank_bit}
+use Rattle.planning.proofs.Above.{above_bit}
 use Rattle.planning.proofs.Sums.{sum_same}
 
 sum_front : (n : ℕ) (f : ℕ → ℕ) → sum_below (suc n) f ≡ f 0 + sum_below n (λ k. f (suc k))
@@ -26,9 +26,9 @@ load_sum l (x ∷ xs) S t =
 abbrev pub asked : Plan → ℕ → ℕ → ℕ → ℕ
 asked p i t k = count_if (ltb (rank_of p i) (rank_of p k)) * (charge_of p k * ceil t (period_of p k))
 
-pub demand_above : (p : Plan) (i t : ℕ) → demand p.list (above p i) i t ≡ charge_of p i + sum_below (size p) (asked p i t)
+pub demand_above : (p : Plan) (i t : ℕ) → demand (list_of p) (above p i) i t ≡ charge_of p i + sum_below (size p) (asked p i t)
 unfolding demand task_at above
 demand_above p i t =
     ap (λ n. charge_of p i + n)
-    (load_sum p.list (listed p.list) (above p i) t
-    ∙ sum_same (size p) _ (asked p i t) (λ k h. ap (λ b. b * (charge_of p k * ceil t (period_of p k))) (rank_bit (size p) p.ranks (rank_of p i) k h)))
+    (load_sum (list_of p) (listed (list_of p)) (above p i) t
+    ∙ sum_same (size p) _ (asked p i t) (λ k h. ap (λ b. b * (charge_of p k * ceil t (period_of p k))) (above_bit p i k)))

@@ -99,6 +99,11 @@ module _ (bound : ℕ → ℕ → Option ℕ) (l : TaskList) where
           few = few_step bound l m d c f.questions going.sound chosen (questions_le f e) going.few;
         }
 
+    -- the same, after the round that places at the rank r
+    pub going_at : (r : ℕ) (f : Found) (c : Candidate) (new : Draft) → r ≡ m + 1 → r ≤ length (listed l) → f ≡ round bound l d.unplaced → f.best ≡ Some c → new ≡ placed_in l (counted d f.questions) c r → Going r new
+    going_at r f c new s h e b is =
+        subst (Going r) (sym is) (subst (λ j. Going j (placed_in l (counted d f.questions) c j)) (sym s) (going_placed f c (omega (arith, s)) e b))
+
     -- a round without a candidate alters only the count of the questions
     counted_sound : (q : ℕ) → Drafted bound l m (counted d q)
     counted_sound q =
@@ -106,8 +111,7 @@ module _ (bound : ℕ → ℕ → Option ℕ) (l : TaskList) where
         record {
           sized = s.sized;
           word = s.word;
-          long_ranks = s.long_ranks;
-          long_holds = s.long_holds;
+          long = s.long;
           ranked = s.ranked;
           apart = s.apart;
           well = λ k h e. let w = s.well k h e in record { below = w.below; limit = w.limit; asked = w.asked; bounded = w.bounded; covers = w.covers; held = w.held };

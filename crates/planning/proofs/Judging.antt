@@ -1,30 +1,83 @@
--- What judging a task needs: it is in time exactly if the response that is found fits after the hold. Assumes nothing.
-use Rattle.std.proofs.Common.{◌≡◌, ℕ, ◌+◌, ◌<◌, cond, ltb, leb, Some, None, Decides, Option, sym, ◌∙◌, arith}
-use Rattle.std.proofs.lemmas.Bool.{lt-ltb, cond-true, leb-true, le-leb}
-use Rattle.tasks.specs.List.{task_at}
+-- What judging a task needs: it is in time exactly if the response that is found fits after the hold; and a plan fits exactly if all
+-- its tasks are in time. Assumes nothing.
+use Rattle.std.proofs.Common.{◌≡◌, ℕ, zero, suc, ◌+◌, ◌<◌, Bool, true, false, cond, ltb, leb, List, [], ◌∷◌, length, get_or, Some, None, Decides, Option, MatchOption, MatchBool, sym, refl, ap, ◌∙◌, subst, ⊎_elim, arith}
+use Rattle.std.proofs.lemmas.Bool.{cases_Bool, lt-ltb, ltb-true, cond-true, cond-false, leb-true, le-leb, true≢false}
+use Rattle.std.proofs.lemmas.List.FromFn.{length-range_with_len, get_or-range_with_len}
+use Rattle.std.specs.Option.{option_zip}
+use Rattle.std.specs.List.{range_with_len, AllWithin, HoldsAt}
+use Rattle.tasks.specs.List.{task_if, task_at}
+use Rattle.tasks.specs.declared.task.Task.{Task}
 use Rattle.analysis.specs.Demand.{deadline}
 use Rattle.analysis.specs.Response.{response}
 use Rattle.analysis.specs.ResponseLaws.{response_is, response_some}
-use Rattle.planning.specs.Plans.{size, held_for, above, InTime}
+use Rattle.planning.specs.Plans.{list_of, size, held_for, above, InTime, Fits}
 use Rattle.planning.specs.declared.plan.Plan.{Plan}
 
-module _ (p : Plan) (k : ℕ) (h : k < size p) where
-  found : (o : Option ℕ) → o ≡ cond (ltb k (size p)) (response p.list (above p k) k) None → o ≡ response p.list (above p k) k
-  found o e = e ∙ cond-true (ltb k (size p)) _ _ (lt-ltb k (size p) h)
+-- what is looked up at a number k is there, if k is below n
+pub looked_up : (k n v w : ℕ) → Some v ≡ cond (ltb k n) (Some w) None → (k < n) × (v ≡ w)
+looked_up k n v w e =
+    ⊎_elim
+    (λ (here : ltb k n ≡ true).
+    let both : Some v ≡ Some w = e ∙ cond-true (ltb k n) (Some w) None here in
+    let same : v ≡ w = cc in
+    (ltb-true k n here, same))
+    (λ (past : ltb k n ≡ false).
+    let clash : Some v ≡ None = e ∙ cond-false (ltb k n) (Some w) None past in
+    cc)
+    (cases_Bool (ltb k n))
 
-  pub in_time_some : (ticks sum limit : ℕ) → Some ticks ≡ cond (ltb k (size p)) (response p.list (above p k) k) None → sum ≡ held_for p k + ticks → limit ≡ deadline p.list (task_at p.list k) → Decides (leb sum limit) (InTime p k)
-  in_time_some ticks sum limit e s d =
-      let is = found (Some ticks) e in (
-        λ yes_leb. record { ticks = ticks; response = response_some p.list (above p k) k ticks (sym is); fits = omega (arith, leb-true sum limit yes_leb) },
+-- a task that is found by its number is listed, and it is that task
+pub is_listed : (ts : List Task) (k : ℕ) (t d : Task) → Some t ≡ task_if ts k → (k < length ts) × (t ≡ get_or ts k d)
+is_listed [] k t d e = cc
+is_listed (x ∷ ts) zero t d e = (omega arith, cc)
+is_listed (x ∷ ts) (suc k) t d e = let rest = is_listed ts k t d e in (omega (arith, rest.0), rest.1)
+
+pub not_listed : (ts : List Task) (k : ℕ) → None ≡ task_if ts k → k < length ts → ⊥
+not_listed [] k e h = omega arith
+not_listed (x ∷ ts) zero e h = cc
+not_listed (x ∷ ts) (suc k) e h = not_listed ts k e (omega arith)
+
+pub match_weaker : {T : Type 0} (P : Type 0) (Q R : T → Type 0) (o : Option T) → ((x : T) → Q x → R x) → MatchOption o P Q → MatchOption o P R
+match_weaker P Q R None f m = m
+match_weaker P Q R (Some x) f m = f x m
+
+module _ (p : Plan) (k : ℕ) (h : k < size p) where
+  found : {T : Type 0} (o : Option T) (x : Option T) → o ≡ cond (ltb k (size p)) x None → o ≡ x
+  found o x e = e ∙ cond-true (ltb k (size p)) _ _ (lt-ltb k (size p) h)
+
+  decided : (b : Bool) (limit : ℕ) (r : Option ℕ) (o : Option (ℕ × ℕ)) → r ≡ response (list_of p) (above p k) k → limit ≡ deadline (list_of p) (task_at (list_of p) k) → o ≡ option_zip (Some (held_for p k)) r → MatchOption o (b ≡ false) (λ x. b ≡ leb (x.0 + x.1) limit) → Decides b ((k < size p) × InTime p k)
+  decided b limit None o is d z m =
+      let no : b ≡ false = subst (λ u. MatchOption u (b ≡ false) (λ x. b ≡ leb (x.0 + x.1) limit)) z m in (
+        λ yes. absurd (true≢false (sym yes ∙ no)),
+        λ t. absurd (let clash : None ≡ Some t.1.ticks = is ∙ response_is (list_of p) (above p k) k t.1.ticks t.1.response in cc),
+      )
+  decided b limit (Some ticks) o is d z m =
+      let so : b ≡ leb (held_for p k + ticks) limit = subst (λ u. MatchOption u (b ≡ false) (λ x. b ≡ leb (x.0 + x.1) limit)) z m in (
+        λ yes. (h, record { ticks = ticks; response = response_some (list_of p) (above p k) k ticks (sym is); fits = omega (arith, d, leb-true (held_for p k + ticks) limit (sym so ∙ yes)) }),
         λ t.
-            let other = response_is p.list (above p k) k t.ticks t.response in
-            let both : Some ticks ≡ Some t.ticks = is ∙ other in
-            let same : ticks ≡ t.ticks = cc in
-            le-leb sum limit (omega (arith, t.fits)),
+            let both : Some ticks ≡ Some t.1.ticks = is ∙ response_is (list_of p) (above p k) k t.1.ticks t.1.response in
+            let same : ticks ≡ t.1.ticks = cc in
+            so ∙ le-leb (held_for p k + ticks) limit (omega (arith, t.1.fits, d, same)),
       )
 
-  pub in_time_none : None ≡ cond (ltb k (size p)) (response p.list (above p k) k) None → InTime p k → ⊥
-  in_time_none e t =
-      let clash : None ≡ Some t.ticks = found None e ∙ response_is p.list (above p k) k t.ticks t.response in
-      let z : ◌≡◌ {A = ℕ} 0 1 = cc in
-      omega arith
+  pub in_time_is : (b : Bool) (limit : ℕ) (hold ticks : Option ℕ) (o : Option (ℕ × ℕ)) → hold ≡ cond (ltb k (size p)) (Some (held_for p k)) None → ticks ≡ cond (ltb k (size p)) (response (list_of p) (above p k) k) None → limit ≡ deadline (list_of p) (task_at (list_of p) k) → o ≡ option_zip hold ticks → MatchOption o (b ≡ false) (λ x. b ≡ leb (x.0 + x.1) limit) → Decides b ((k < size p) × InTime p k)
+  in_time_is b limit hold ticks o e r d z m =
+      decided b limit ticks o (found ticks _ r) d (z ∙ ap (λ x. option_zip x ticks) (found hold _ e)) m
+
+-- ---- all tasks
+
+pub judged : (p : Plan) (b : Bool) (n : ℕ) → n ≡ size p → MatchBool b (AllWithin (λ k. (k < size p) × InTime p k) (range_with_len 0 n) 0 (length (range_with_len 0 n))) ((k : ℕ) × (k < length (range_with_len 0 n)) × HoldsAt (λ k. (k < size p) × InTime p k → ⊥) (range_with_len 0 n) k) → Decides b (Fits p)
+judged p true n e all = (
+  λ _ k h.
+      let at : get_or (range_with_len 0 n) k 0 ≡ k = omega (arith, get_or-range_with_len 0 n k 0 (omega arith)) in
+      (subst (λ j. (j < size p) × InTime p j) at (all k 0 (omega arith) (omega (arith, length-range_with_len 0 n)))).1,
+  λ _. refl,
+)
+judged p false n e some = (
+  λ yes. cc,
+  λ fits.
+      let k = some.0 in
+      let below : k < n = omega (arith, some.1, length-range_with_len 0 n) in
+      let at : get_or (range_with_len 0 n) k 0 ≡ k = omega (arith, get_or-range_with_len 0 n k 0 below) in
+      absurd (subst (λ j. (j < size p) × InTime p j → ⊥) at (some.2 0) (omega arith, fits k (omega arith))),
+)

@@ -1,10 +1,10 @@
 -- A round that places a candidate keeps what holds of a draft.
 -- The candidate leaves the unplaced set and gets the next rank, which no placed task has. Below it stay just the unplaced tasks: they are
 -- the ones that will get greater ranks. Assumes nothing.
-use Rattle.std.proofs.Common.{◌≡◌, ℕ, ◌+◌, ◌*◌, ◌^◌, ◌<◌, ◌≤◌, length, Option, sym, refl, ap, ◌∙◌, subst, inl, inr, ⊎_elim, add-mul, mul-le-mul_left, mul-add, arith}
+use Rattle.std.proofs.Common.{◌≡◌, ℕ, ◌+◌, ◌*◌, ◌^◌, ◌<◌, ◌≤◌, length, get_or, set, Option, sym, refl, ap, ◌∙◌, subst, inl, inr, ⊎_elim, add-mul, mul-le-mul_left, mul-add, arith}
 use lib.Count.{ones, ones-ones}
 use Rattle.std.proofs.lemmas.Nat.{pow_pos}
-use Rattle.std.proofs.lemmas.List.{get_or-set_same, get_or-set_other, length-set}
+use Rattle.std.proofs.lemmas.List.{get_or-set_same, get_or-set_other, length-set, length-map, map-set}
 use Rattle.std.proofs.lemmas.Bool.{cases_eq}
 use Rattle.tasks.specs.List.{listed, task_at}
 use Rattle.tasks.specs.Set.{bit, without}
@@ -13,6 +13,7 @@ use Rattle.tasks.proofs.Reading.{listed_few}
 use Rattle.tasks.proofs.SetLaws.{one_or_none, bits_below, first_is, bit_without_same, bit_without_other, bit_first, without_le}
 use Rattle.tasks.proofs.SetSizes.{ones_without}
 use Rattle.planning.specs.Drafts.{rank_in, held_in, WellPlaced, Drafted, FewAsked}
+use Rattle.planning.specs.Orders.{new_plan_row, ranks, holds}
 use Rattle.planning.specs.Rounds.{hold_by, hold_of, counted, placed_in, begun}
 use Rattle.planning.specs.declared.rounds.Candidate.{Candidate}
 use Rattle.planning.specs.declared.rounds.Draft.{Draft}
@@ -36,8 +37,7 @@ module _ (bound : ℕ → ℕ → Option ℕ) (l : TaskList) where
   drafted_start = record {
     sized = omega (arith, start_size);
     word = start_word;
-    long_ranks = refl;
-    long_holds = refl;
+    long = refl;
     ranked = λ k h e. absurd (omega (arith, e, bit_first (length (listed l)) k (listed_few l) h));
     apart = λ j k h i e f q. absurd (omega (arith, e, bit_first (length (listed l)) j (listed_few l) h));
     well = λ k h e. absurd (omega (arith, e, bit_first (length (listed l)) k (listed_few l) h));
@@ -53,21 +53,29 @@ module _ (bound : ℕ → ℕ → Option ℕ) (l : TaskList) where
     task_listed : c.task < length (listed l)
     task_listed = bits_below d.unplaced c.task (length (listed l)) old.word chosen.in_set
 
+    ranks_new : ranks new.rows ≡ set (ranks d.rows) c.task (m + 1)
+    unfolding new
+    ranks_new = map-set (λ r. r.rank) d.rows c.task (new_plan_row (m + 1) (hold_of l c))
+
+    holds_new : holds new.rows ≡ set (holds d.rows) c.task (hold_of l c)
+    unfolding new
+    holds_new = map-set (λ r. r.hold) d.rows c.task (new_plan_row (m + 1) (hold_of l c))
+
     rank_own : rank_in new c.task ≡ m + 1
     unfolding new
-    rank_own = get_or-set_same d.ranks c.task (m + 1) 0 (omega (arith, task_listed, listed_few l, old.long_ranks))
+    rank_own = ap (λ rs. get_or rs c.task 0) ranks_new ∙ get_or-set_same (ranks d.rows) c.task (m + 1) 0 (omega (arith, task_listed, listed_few l, old.long, length-map d.rows (λ r. r.rank)))
 
     rank_other : (k : ℕ) → (k ≡ c.task → ⊥) → rank_in new k ≡ rank_in d k
     unfolding new
-    rank_other k n = get_or-set_other d.ranks c.task k (m + 1) 0 n
+    rank_other k n = ap (λ rs. get_or rs k 0) ranks_new ∙ get_or-set_other (ranks d.rows) c.task k (m + 1) 0 n
 
     held_own : held_in new c.task ≡ hold_of l c
     unfolding new
-    held_own = get_or-set_same d.holds c.task (hold_of l c) 0 (omega (arith, task_listed, listed_few l, old.long_holds))
+    held_own = ap (λ hs. get_or hs c.task 0) holds_new ∙ get_or-set_same (holds d.rows) c.task (hold_of l c) 0 (omega (arith, task_listed, listed_few l, old.long, length-map d.rows (λ r. r.hold)))
 
     held_other : (k : ℕ) → (k ≡ c.task → ⊥) → held_in new k ≡ held_in d k
     unfolding new
-    held_other k n = get_or-set_other d.holds c.task k (hold_of l c) 0 n
+    held_other k n = ap (λ hs. get_or hs k 0) holds_new ∙ get_or-set_other (holds d.rows) c.task k (hold_of l c) 0 n
 
     -- a task that is still unplaced was so before, and is another
     still : (k : ℕ) → bit new.unplaced k ≡ 1 → (bit d.unplaced k ≡ 1) × (k ≡ c.task → ⊥)
@@ -118,8 +126,7 @@ module _ (bound : ℕ → ℕ → Option ℕ) (l : TaskList) where
     drafted_step = record {
       sized = omega (arith, old.sized, ones_without d.unplaced c.task, chosen.in_set);
       word = omega (arith, old.word, without_le d.unplaced c.task);
-      long_ranks = length-set d.ranks c.task (m + 1) ∙ old.long_ranks;
-      long_holds = length-set d.holds c.task (hold_of l c) ∙ old.long_holds;
+      long = length-set d.rows c.task (new_plan_row (m + 1) (hold_of l c)) ∙ old.long;
       ranked = λ k h e. ⊎_elim
           (λ (same : k ≡ c.task). let r = ap (rank_in new) same ∙ rank_own in (omega (arith, r), omega (arith, r)))
           (λ (other : k ≡ c.task → ⊥). let r = old.ranked k h (placed k e other) in (omega (arith, r, rank_other k other), omega (arith, r, rank_other k other)))

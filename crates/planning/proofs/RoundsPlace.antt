@@ -13,7 +13,7 @@ use Rattle.tasks.proofs.SetLaws.{bit_le, one_or_none, bit_without_same, bit_with
 use Rattle.analysis.specs.Question.{Premises}
 use Rattle.planning.specs.Choices.{RoundChooses}
 use Rattle.planning.specs.Drafts.{rank_in, Drafted}
-use Rattle.planning.specs.Orders.{above_in}
+use Rattle.planning.specs.Orders.{ranks as ranks_of, above_in}
 use Rattle.planning.specs.Passing.{PassingOrder, RoundPlaces}
 use Rattle.planning.specs.Rounds.{round}
 use Rattle.planning.specs.declared.rounds.Candidate.{Candidate}
@@ -124,10 +124,10 @@ found_places bound l U f e fewer all = subst (λ g. RoundPlaces bound l U g.best
 
 pub passing_from_draft : (bound : ℕ → ℕ → Option ℕ) (l : TaskList) (m : ℕ) (d : Draft) → Fewer bound l → Drafted bound l m d → d.unplaced ≡ 0 → PassingOrder bound l
 passing_from_draft bound l m d fewer drafted none = record {
-  ranks = d.ranks;
+  ranks = ranks_of d.rows;
   ranked = finished_ranked bound l m d drafted none;
   apart = finished_apart bound l m d drafted none;
   passes = λ k h.
       let w = finished_well bound l m d drafted none k h in
-      ap is_some (fewer (above_in (take (length (listed l)) d.ranks) (rank_in d k)) w.below k w.limit w.asked (placed_within bound l d k w) w.bounded).1;
+      ap is_some (fewer (above_in (take (length (listed l)) (ranks_of d.rows)) (rank_in d k)) w.below k w.limit w.asked (placed_within bound l d k w) w.bounded).1;
 }

@@ -1,86 +1,109 @@
 -- One more row keeps what the rows of a plan keep. Assumes nothing.
-use Rattle.std.proofs.Common.{◌≡◌, ℕ, zero, suc, ◌+◌, ◌<◌, ◌≤◌, Bool, true, false, not, ◌&&◌, ◌||◌, eqb, ltb, leb, List, length, get_or, set, sym, ap, ◌∙◌, subst, ⊎_elim, add-one, arith}
-use Rattle.std.proofs.lemmas.List.{get_or-set_same, get_or-set_other}
-use Rattle.std.proofs.lemmas.Bool.{cases_eq, and_parts, not-true, or_parts, or_left, leb-true, ltb-true, eqb-true, eqb-false, eq-eqb, ne_eqb, lt-ltb, le-ltb}
+use Rattle.std.proofs.Common.{◌≡◌, ℕ, zero, suc, ◌+◌, ◌<◌, ◌≤◌, Bool, true, false, not, ◌&&◌, ◌||◌, eqb, ltb, leb, List, [], ◌∷◌, ◌++◌, map, length, get_or, Ok, Err, Result, sym, refl, ap, ◌∙◌, subst, ⊎_elim, arith}
+use denote.Enum.Bare.{sameb}
+use Rattle.std.proofs.lemmas.List.{get_or_append_left, get_or_push, length-append, length-map, map_push}
+use Rattle.std.proofs.lemmas.Bool.{cases_eq, and_parts, not-true, or_parts, leb-true, ltb-true, eqb-true, eqb-false, lt-ltb, le-ltb}
+use Rattle.fixed.specs.FixedVec.{elements, Appends}
+use Rattle.fixed.specs.declared.fixed_vec.FixedVec.{FixedVec}
+use Rattle.fixed.specs.declared.fixed_vec.Full.{Full}
 use Rattle.tasks.specs.List.{listed, task_at}
 use Rattle.tasks.specs.declared.list.TaskList.{TaskList}
+use Rattle.tasks.specs.contracts.task.Preference.{the_type}
 use Rattle.tasks.specs.declared.task.Preference.{Preference}
 use Rattle.tasks.specs.declared.task.Preference.TheVariants.{Asap, Alap}
 use Rattle.tasks.specs.declared.task.Task.{Task}
 use Rattle.analysis.specs.Demand.{deadline}
-use Rattle.planning.specs.Orders.{Ranked, Apart, Held, Prompt}
-use Rattle.planning.specs.Rows.{used_below, rank_fits, prompt_fits, hold_fits}
-use Rattle.planning.specs.declared.plan.OpenPlan.{OpenPlan}
+use Rattle.planning.specs.Orders.{ranks, Apart, RowsKeep}
+use Rattle.planning.specs.Rows.{used_in, rank_fits, prompt_fits, hold_fits}
+use Rattle.planning.specs.declared.plan.Row.{Row}
 
 -- ---- the ranks used so far
 
-pub used_hit : (rs : List ℕ) (m r : ℕ) → get_or rs m 0 ≡ r → true ≡ used_below rs (m + 1) r
-used_hit rs m r e = sym (or_left _ _ (eq-eqb (get_or rs m 0) r e)) ∙ ap (λ k. used_below rs k r) (sym (add-one m))
-
-pub used_miss : (rs : List ℕ) (m r : ℕ) (b : Bool) → (get_or rs m 0 ≡ r → ⊥) → b ≡ used_below rs m r → b ≡ used_below rs (m + 1) r
-used_miss rs m r b n e = e ∙ ap (λ t. t || used_below rs m r) (sym (ne_eqb (get_or rs m 0) r n)) ∙ ap (λ k. used_below rs k r) (sym (add-one m))
-
-unused : (rs : List ℕ) (m r k : ℕ) → used_below rs m r ≡ false → k < m → get_or rs k 0 ≡ r → ⊥
-unused rs zero r k e h same = omega arith
-unused rs (suc m) r k e h same =
-    let parts = or_parts (eqb (get_or rs m 0) r) (used_below rs m r) e in
-    ⊎_elim
-    (λ (last : k ≡ m). eqb-false (get_or rs m 0) r parts.0 (ap (λ j. get_or rs j 0) (sym last) ∙ same))
-    (λ (before : k ≡ m → ⊥). unused rs m r k parts.1 (omega arith) same)
-    (cases_eq k m)
+pub unused : (rs : List Row) (r k : ℕ) → used_in rs r ≡ false → k < length rs → get_or (ranks rs) k 0 ≡ r → ⊥
+unused [] r k e h same = omega arith
+unused (x ∷ rs) r zero e h same = eqb-false x.rank r (or_parts (eqb x.rank r) (used_in rs r) e).0 same
+unused (x ∷ rs) r (suc k) e h same = unused rs r k (or_parts (eqb x.rank r) (used_in rs r) e).1 (omega arith) same
 
 -- ---- one more at the end
 
-more : (P : ℕ → ℕ → Type 0) (xs : List ℕ) (m x : ℕ) → m < length xs → ((k : ℕ) → k < m → P k (get_or xs k 0)) → P m x → (k : ℕ) → k < m + 1 → P k (get_or (set xs m x) k 0)
-more P xs m x room all new k h =
+-- what holds of each number of a list, and of one more, holds of each of the longer list
+more : (P : ℕ → ℕ → Type 0) (xs : List ℕ) (x : ℕ) → ((k : ℕ) → k < length xs → P k (get_or xs k 0)) → P (length xs) x → (k : ℕ) → k < length xs + 1 → P k (get_or (xs ++ x ∷ []) k 0)
+more P xs x all new k h =
     ⊎_elim
-    (λ (last : k ≡ m). subst (λ j. P j (get_or (set xs m x) j 0)) (sym last) (subst (P m) (sym (get_or-set_same xs m x 0 room)) new))
-    (λ (before : k ≡ m → ⊥). subst (P k) (sym (get_or-set_other xs m k x 0 before)) (all k (omega arith)))
-    (cases_eq k m)
+    (λ (last : k ≡ length xs). subst (λ j. P j (get_or (xs ++ x ∷ []) j 0)) (sym last) (subst (P (length xs)) (sym (get_or_push xs x 0 (length xs) (λ i. length xs))) new))
+    (λ (before : k ≡ length xs → ⊥). subst (P k) (sym (get_or_append_left xs (x ∷ []) 0 k (omega arith))) (all k (omega arith)))
+    (cases_eq k (length xs))
 
-pub ranked_more : (l : TaskList) (rs : List ℕ) (m r : ℕ) → m < length rs → Ranked l m rs → 1 ≤ r → r ≤ length (listed l) → Ranked l (m + 1) (set rs m r)
-ranked_more l rs m r room old low high = more (λ k v. (1 ≤ v) × (v ≤ length (listed l))) rs m r room old (low, high)
+-- that, of a part of each row
+module _ (part : Row → ℕ) (rs : List Row) (r : Row) where
+  pub part_more : (P : ℕ → ℕ → Type 0) → ((k : ℕ) → k < length rs → P k (get_or (map part rs) k 0)) → P (length rs) (part r) → (k : ℕ) → k < length (rs ++ r ∷ []) → P k (get_or (map part (rs ++ r ∷ [])) k 0)
+  part_more P all new k h =
+      let size = length-map rs part in
+      subst (λ xs. P k (get_or xs k 0)) (sym (map_push part rs r))
+      (more P (map part rs) (part r) (λ j i. all j (omega (arith, size))) (subst (λ n. P n (part r)) (sym size) new) k (omega (arith, size, length-append rs (r ∷ []))))
 
-pub held_more : (l : TaskList) (hs : List ℕ) (m h : ℕ) → m < length hs → Held l m hs → h < deadline l (task_at l m) → Held l (m + 1) (set hs m h)
-held_more l hs m h room old new = more (λ k v. v < deadline l (task_at l k)) hs m h room old new
-
-pub prompt_more : (l : TaskList) (hs : List ℕ) (m h : ℕ) → m < length hs → Prompt l m hs → ((task_at l m).preference ≡ Asap → h ≡ 0) → Prompt l (m + 1) (set hs m h)
-prompt_more l hs m h room old new k e =
-    more (λ k v. (task_at l k).preference ≡ Asap → v ≡ 0) hs m h room (λ j i a. old j (i, a)) new k e.0 e.1
-
-pub apart_more : (rs : List ℕ) (m r : ℕ) → m < length rs → Apart m rs → used_below rs m r ≡ false → Apart (m + 1) (set rs m r)
-apart_more rs m r room old free j k e =
-    let own = get_or-set_same rs m r 0 room in
+pub apart_more : (rs : List Row) (r : Row) → Apart (length rs) (ranks rs) → used_in rs r.rank ≡ false → Apart (length (rs ++ r ∷ [])) (ranks (rs ++ r ∷ []))
+apart_more rs r old free j k e =
+    let n = length rs in
+    let longer = length-append rs (r ∷ []) in
+    let pushed = map_push (λ x. x.rank) rs r in
+    let size = length-map rs (λ x. x.rank) in
+    let before : (i : ℕ) → i < n → get_or (ranks (rs ++ r ∷ [])) i 0 ≡ get_or (ranks rs) i 0 =
+    λ i h. ap (λ xs. get_or xs i 0) pushed ∙ get_or_append_left (ranks rs) (r.rank ∷ []) 0 i (omega (arith, size)) in
+    let last : (i : ℕ) → i ≡ n → get_or (ranks (rs ++ r ∷ [])) i 0 ≡ r.rank =
+    λ i s. ap (λ xs. get_or xs i 0) pushed ∙ get_or_push (ranks rs) r.rank 0 i (size ∙ sym s) in
     ⊎_elim
-    (λ (a : j ≡ m). ⊎_elim
-    (λ (b : k ≡ m). a ∙ sym b)
-    (λ (b : k ≡ m → ⊥). absurd (unused rs m r k free (omega arith) (sym (get_or-set_other rs m k r 0 b) ∙ sym e.2 ∙ ap (λ i. get_or (set rs m r) i 0) a ∙ own)))
-    (cases_eq k m))
-    (λ (a : j ≡ m → ⊥). ⊎_elim
-    (λ (b : k ≡ m). absurd (unused rs m r j free (omega arith) (sym (get_or-set_other rs m j r 0 a) ∙ e.2 ∙ ap (λ i. get_or (set rs m r) i 0) b ∙ own)))
-    (λ (b : k ≡ m → ⊥). old j k (omega arith, omega arith, sym (get_or-set_other rs m j r 0 a) ∙ e.2 ∙ get_or-set_other rs m k r 0 b))
-    (cases_eq k m))
-    (cases_eq j m)
+    (λ (a : j ≡ n). ⊎_elim
+    (λ (b : k ≡ n). a ∙ sym b)
+    (λ (b : k ≡ n → ⊥). let h : k < n = omega (arith, e.1, longer) in absurd (unused rs r.rank k free h (sym (before k h) ∙ sym e.2 ∙ last j a)))
+    (cases_eq k n))
+    (λ (a : j ≡ n → ⊥).
+    let i : j < n = omega (arith, e.0, longer) in
+    ⊎_elim
+    (λ (b : k ≡ n). absurd (unused rs r.rank j free i (sym (before j i) ∙ e.2 ∙ last k b)))
+    (λ (b : k ≡ n → ⊥). let h : k < n = omega (arith, e.1, longer) in old j k (i, h, sym (before j i) ∙ e.2 ∙ before k h))
+    (cases_eq k n))
+    (cases_eq j n)
 
 -- ---- what the checks tell
-
-pub rank_checked : (p : OpenPlan) (r : ℕ) → rank_fits p r ≡ true → (1 ≤ r) × (r ≤ length (listed p.list)) × (used_below p.ranks p.count r ≡ false)
-rank_checked p r e =
-    let outer = and_parts (leb 1 r && leb r (length (listed p.list))) (not (used_below p.ranks p.count r)) e in
-    let inner = and_parts (leb 1 r) (leb r (length (listed p.list))) outer.0 in
-    (leb-true _ _ inner.0, leb-true _ _ inner.1, not-true _ outer.1)
 
 prompt_zero : (q : Preference) (h : ℕ) → prompt_fits q h ≡ true → q ≡ Asap → h ≡ 0
 prompt_zero Asap h e s = eqb-true h 0 e
 prompt_zero Alap h e s = cc
 
-pub hold_checked : (p : OpenPlan) (k h : ℕ) → hold_fits p k h ≡ true → (h < deadline p.list (task_at p.list k)) × ((task_at p.list k).preference ≡ Asap → h ≡ 0)
-hold_checked p k h e =
-    let parts = and_parts (ltb h (deadline p.list (task_at p.list k))) (prompt_fits (task_at p.list k).preference h) e in
-    (ltb-true _ _ parts.0, prompt_zero (task_at p.list k).preference h parts.1)
+pub keep_more : (l : TaskList) (rs : List Row) (r : Row) → RowsKeep l rs → length rs < length (listed l) → rank_fits l rs r.rank ≡ true → hold_fits l (length rs) r.hold ≡ true → RowsKeep l (rs ++ r ∷ [])
+keep_more l rs r old room rank hold =
+    let outer = and_parts (leb 1 r.rank && leb r.rank (length (listed l))) (not (used_in rs r.rank)) rank in
+    let inner = and_parts (leb 1 r.rank) (leb r.rank (length (listed l))) outer.0 in
+    let parts = and_parts (ltb r.hold (deadline l (task_at l (length rs)))) (prompt_fits (task_at l (length rs)).preference r.hold) hold in
+    record {
+      few = omega (arith, room, length-append rs (r ∷ []));
+      ranked = part_more (λ x. x.rank) rs r (λ k v. (1 ≤ v) × (v ≤ length (listed l))) old.ranked (leb-true _ _ inner.0, leb-true _ _ inner.1);
+      apart = apart_more rs r old.apart (not-true _ outer.1);
+      held = part_more (λ x. x.hold) rs r (λ k v. v < deadline l (task_at l k)) old.held (ltb-true _ _ parts.0);
+      prompt = λ k e. part_more (λ x. x.hold) rs r (λ k v. (task_at l k).preference ≡ Asap → v ≡ 0) (λ j i a. old.prompt j (i, a)) (prompt_zero (task_at l (length rs)).preference r.hold parts.1) k e.0 e.1;
+    }
 
-pub hold_below : (p : OpenPlan) (k h : ℕ) (x : Task) (b : Bool) → x ≡ task_at p.list k → h < x.period → b ≡ prompt_fits x.preference h → b ≡ hold_fits p k h
-hold_below p k h x b e l f = (f ∙ ap (λ t. t && prompt_fits x.preference h) (sym (lt-ltb h x.period l))) ∙ ap (λ y. ltb h y.period && prompt_fits y.preference h) e
+prompt_is : (q : Preference) (h : ℕ) → prompt_fits q h ≡ (sameb the_type q Alap || eqb h 0)
+prompt_is Asap h = refl
+prompt_is Alap h = refl
 
-pub hold_above : (p : OpenPlan) (k h : ℕ) (x : Task) → x ≡ task_at p.list k → x.period ≤ h → false ≡ hold_fits p k h
-hold_above p k h x e l = ap (λ t. t && prompt_fits x.preference h) (sym (le-ltb h x.period l)) ∙ ap (λ y. ltb h y.period && prompt_fits y.preference h) e
+module _ (l : TaskList) (k h : ℕ) (x : Task) (read : x ≡ task_at l k) where
+  hold_is : hold_fits l k h ≡ (ltb h x.period && (sameb the_type x.preference Alap || eqb h 0))
+  hold_is = ap (λ y. ltb h y.period && prompt_fits y.preference h) (sym read) ∙ ap (λ b. ltb h x.period && b) (prompt_is x.preference h)
+
+  pub hold_alap : (b : Bool) → h < x.period → b ≡ sameb the_type x.preference Alap → b ≡ true → b ≡ hold_fits l k h
+  hold_alap b s f t = t ∙ sym (hold_is ∙ (λ i. lt-ltb h x.period s i && ((sym f ∙ t) i || eqb h 0)))
+
+  pub hold_asap : (b : Bool) → h < x.period → b ≡ sameb the_type x.preference Alap → b ≡ false → eqb h 0 ≡ hold_fits l k h
+  hold_asap b s f t = sym (hold_is ∙ (λ i. lt-ltb h x.period s i && ((sym f ∙ t) i || eqb h 0)))
+
+  pub hold_late : x.period ≤ h → ltb h x.period ≡ hold_fits l k h
+  hold_late s = le-ltb h x.period s ∙ sym (hold_is ∙ (λ i. le-ltb h x.period s i && (sameb the_type x.preference Alap || eqb h 0)))
+
+-- ---- the vector of the rows
+
+-- of fewer than 32 rows one more is taken
+pub pushed : (old new : FixedVec Row 32) (a : Result (Unit {0}) Full) (r : Row) → Appends 32 (r ∷ []) old new a → length (elements old) < 32 → elements new ≡ elements old ++ r ∷ []
+pushed old new (Ok x) r e h = e.1
+pushed old new (Err f) r e h = absurd (omega (arith, e.0))

@@ -11,6 +11,7 @@ use Rattle.tasks.specs.declared.task.Preference.TheVariants.{Asap, Alap}
 use Rattle.tasks.specs.declared.task.Task.{Task}
 use Rattle.analysis.specs.Demand.{ceil, load, demand}
 use Rattle.analysis.specs.Response.{least, response}
+use Rattle.planning.specs.Orders.{new_plan_row, no_row}
 use Rattle.planning.specs.Rounds.{prefers, candidate, considered, search_below, search, joined, round, hold_by, counted, placed_in, chosen_or, go_on, begun, planned}
 use Rattle.planning.specs.declared.rounds.Candidate.{Candidate}
 use Rattle.planning.specs.declared.rounds.Draft.{Draft}
@@ -81,7 +82,7 @@ module _ (l m : TaskList) (same : rows (listed l) ≡ rows (listed m)) where
 
     placed_same : (d : Draft) (c : Candidate) (r : ℕ) → placed_in l d c r ≡ placed_in m d c r
     placed_same d c r =
-        (λ i. record { unplaced = without d.unplaced c.task; questions = d.questions; ranks = set d.ranks c.task r; holds = set d.holds c.task (hold_by (preference c.task i) c.slack) })
+        (λ i. record { unplaced = without d.unplaced c.task; questions = d.questions; rows = set d.rows c.task (new_plan_row r (hold_by (preference c.task i) c.slack)) })
 
     go_on_same : (n r : ℕ) (d : Draft) → go_on bound l n r d ≡ go_on bound m n r d
     unfolding go_on
@@ -100,7 +101,7 @@ module _ (l m : TaskList) (same : rows (listed l) ≡ rows (listed m)) where
     unfolding planned
     planned_by =
         go_on_same (length (listed l)) 1 (begun l)
-        ∙ (λ i. go_on bound m (size i) 1 (record { unplaced = first_set (size i); questions = 0; ranks = replicate 32 0; holds = replicate 32 0 }))
+        ∙ (λ i. go_on bound m (size i) 1 (record { unplaced = first_set (size i); questions = 0; rows = replicate 32 no_row }))
 
   pub planned_same : planned (response l) l ≡ planned (response m) m
   planned_same = planned_by (response l) ∙ ap (λ b. planned b m) response_same

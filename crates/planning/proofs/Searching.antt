@@ -10,6 +10,7 @@ use Rattle.tasks.specs.declared.list.TaskList.{TaskList}
 use Rattle.tasks.specs.contracts.task.Preference.{the_type}
 use Rattle.tasks.specs.declared.task.Preference.{Preference}
 use Rattle.tasks.specs.declared.task.Preference.TheVariants.{Asap, Alap}
+use Rattle.tasks.specs.declared.task.Task.{Task}
 use Rattle.tasks.proofs.SetLaws.{bit_le, bit_without_same, bit_without_other}
 use Rattle.tasks.proofs.SetSizes.{size_below, size_le}
 use Rattle.analysis.specs.Demand.{deadline}
@@ -141,8 +142,12 @@ pub candidate_is : (l : TaskList) (k b s : ℕ) (o : Option ℕ) → Some b ≡ 
 candidate_is l k b s o e h = (λ i. Some (record { task = k; bound = b; slack = h i })) ∙ ap (candidate l k) e
 
 -- what `==` on preferences tells
-pub prefers_is : (q p : Preference) → sameb the_type q p ≡ prefers p q
+prefers_is : (q p : Preference) → sameb the_type q p ≡ prefers p q
 prefers_is Asap Asap = refl
 prefers_is Asap Alap = refl
 prefers_is Alap Asap = refl
 prefers_is Alap Alap = refl
+
+-- what the code asks before it puts a question
+pub asked_is : (l : TaskList) (p : Preference) (U k : ℕ) (x : Task) (h b : Bool) → x ≡ task_at l k → h ≡ eqb (bit U k) 1 → b ≡ sameb the_type x.preference p → (h && b) ≡ asks l p U k
+asked_is l p U k x h b read e same = (λ i. e i && (same ∙ prefers_is x.preference p ∙ ap (λ t. prefers p t.preference) read) i)

@@ -14,7 +14,7 @@ use Rattle.analysis.specs.Demand.{ceil}
 use Rattle.analysis.specs.Response.{Response}
 use Rattle.planning.specs.Counts.{sum_below, count_if}
 use Rattle.planning.specs.Logs.{released, finished, ran, Log, is_for, known, age, served, ended}
-use Rattle.planning.specs.Plans.{size, rank_of, held_for, above, charge_of, deadline_of, period_of}
+use Rattle.planning.specs.Plans.{list_of, size, rank_of, held_for, above, charge_of, deadline_of, period_of}
 use Rattle.planning.specs.RunLaws.{InWindow, WindowsHold}
 use Rattle.planning.specs.Runs.{Pends, Picks, Lawful}
 use Rattle.planning.specs.declared.plan.Plan.{Plan}
@@ -31,7 +31,7 @@ in_level p i j = leb (rank_of p i) (rank_of p j)
 abbrev pub left_of : Plan → ℕ → Log → ℕ → ℕ
 left_of p i l j = level_by (in_level p i j) (known j l) (ended j l) (age j l) (served j l) (held_for p j) (deadline_of p j) (charge_of p j)
 
-module _ (p : Plan) (i r : ℕ) (listed_task : i < size p) (resp : Response p.list (above p i) i r) where
+module _ (p : Plan) (i r : ℕ) (listed_task : i < size p) (resp : Response (list_of p) (above p i) i r) where
   pub record Window (l : Log) : Type 0 where
     pub ticks : ℕ
     pub jobs : ℕ → ℕ

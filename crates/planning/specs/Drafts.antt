@@ -12,14 +12,15 @@ use Rattle.tasks.specs.Set.{bit}
 use Rattle.tasks.specs.declared.list.TaskList.{TaskList}
 use Rattle.analysis.specs.Demand.{deadline}
 use Rattle.analysis.specs.Question.{Premises}
+use Rattle.planning.specs.Orders.{ranks, holds}
 use Rattle.planning.specs.Rounds.{hold_by}
 use Rattle.planning.specs.declared.rounds.Draft.{Draft}
 
 abbrev pub rank_in : Draft → ℕ → ℕ
-rank_in d k = slice_index d.ranks k
+rank_in d k = slice_index (ranks d.rows) k
 
 abbrev pub held_in : Draft → ℕ → ℕ
-held_in d k = slice_index d.holds k
+held_in d k = slice_index (holds d.rows) k
 
 pub record WellPlaced (bound : ℕ → ℕ → Option ℕ) (l : TaskList) (d : Draft) (k : ℕ) : Type 0 where
   pub below : ℕ
@@ -32,8 +33,7 @@ pub record WellPlaced (bound : ℕ → ℕ → Option ℕ) (l : TaskList) (d : D
 pub record Drafted (bound : ℕ → ℕ → Option ℕ) (l : TaskList) (m : ℕ) (d : Draft) : Type 0 where
   pub sized : m + count_ones d.unplaced ≡ length (listed l)
   pub word : d.unplaced < 2 ^ length (listed l)
-  pub long_ranks : length d.ranks ≡ 32
-  pub long_holds : length d.holds ≡ 32
+  pub long : length d.rows ≡ 32
   pub ranked : (k : ℕ) → k < length (listed l) → bit d.unplaced k ≡ 0 → (1 ≤ rank_in d k) × (rank_in d k ≤ m)
   pub apart : (j k : ℕ) → j < length (listed l) → k < length (listed l) → bit d.unplaced j ≡ 0 → bit d.unplaced k ≡ 0 → rank_in d j ≡ rank_in d k → j ≡ k
   pub well : (k : ℕ) → k < length (listed l) → bit d.unplaced k ≡ 0 → WellPlaced bound l d k

@@ -15,7 +15,7 @@ use Rattle.std.specs.Prelude.{◌≡◌, ℕ, zero, suc, ◌+◌, ◌-◌, ◌<�
 use Rattle.analysis.specs.Demand.{demand}
 use Rattle.planning.specs.Counts.{due_in, kept_in}
 use Rattle.planning.specs.Logs.{now}
-use Rattle.planning.specs.Plans.{size, rank_of, held_for, above, deadline_of}
+use Rattle.planning.specs.Plans.{list_of, size, rank_of, held_for, above, deadline_of}
 use Rattle.planning.specs.Replays.{log_of}
 use Rattle.planning.specs.declared.event.Event.{Event}
 use Rattle.planning.specs.declared.event.Event.TheVariants.{Release, Tick}
@@ -47,7 +47,7 @@ longest_run = 120000
 
 pub record Met (p : Plan) (i : ℕ) : Type 0 where
   pub ticks : ℕ
-  pub met : demand p.list (above p i) i ticks ≤ ticks
+  pub met : demand (list_of p) (above p i) i ticks ≤ ticks
   pub in_time : held_for p i + ticks ≤ deadline_of p i
 
 pub record Demanding (p : Plan) (i : ℕ) : Type 0 where

@@ -19,6 +19,7 @@ use Rattle.tasks.specs.declared.list.TaskList.{TaskList}
 use Rattle.tasks.specs.declared.task.Preference.{Preference}
 use Rattle.tasks.specs.declared.task.Preference.TheVariants.{Asap, Alap}
 use Rattle.analysis.specs.Demand.{deadline}
+use Rattle.planning.specs.Orders.{new_plan_row, no_row}
 use Rattle.planning.specs.declared.rounds.Candidate.{Candidate}
 use Rattle.planning.specs.declared.rounds.Draft.{Draft}
 use Rattle.planning.specs.declared.rounds.Found.{Found}
@@ -68,14 +69,13 @@ abbrev pub hold_of : TaskList → Candidate → ℕ
 hold_of l c = hold_by (task_at l c.task).preference c.slack
 
 abbrev pub counted : Draft → ℕ → Draft
-counted d q = record { unplaced = d.unplaced; questions = d.questions + q; ranks = d.ranks; holds = d.holds }
+counted d q = record { unplaced = d.unplaced; questions = d.questions + q; rows = d.rows }
 
 abbrev pub placed_in : TaskList → Draft → Candidate → ℕ → Draft
 placed_in l d c r = record {
   unplaced = without d.unplaced c.task;
   questions = d.questions;
-  ranks = slice_set d.ranks c.task r;
-  holds = slice_set d.holds c.task (hold_of l c);
+  rows = slice_set d.rows c.task (new_plan_row r (hold_of l c));
 }
 
 abbrev pub chosen_or : Option Candidate → Draft → (Candidate → Draft) → Draft
@@ -90,7 +90,7 @@ go_on bound l (suc n) r d =
     (λ c. go_on bound l n (suc r) (placed_in l (counted d (round bound l d.unplaced).questions) c r))
 
 abbrev pub begun : TaskList → Draft
-begun l = record { unplaced = first_set (length (listed l)); questions = 0; ranks = replicate 32 0; holds = replicate 32 0 }
+begun l = record { unplaced = first_set (length (listed l)); questions = 0; rows = replicate 32 no_row }
 
 unfoldable pub planned : (ℕ → ℕ → Option ℕ) → TaskList → Draft
 planned bound l = go_on bound l (length (listed l)) 1 (begun l)

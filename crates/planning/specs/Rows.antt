@@ -1,56 +1,53 @@
 -- Plans made row by row.
 --
---   used_below rs m r         one of the first m ranks is r
---   next_fits p k             k is the number of the next row, and is listed
---   rank_fits p r             r is from 1 to the number of tasks, and not yet used
---   hold_fits p k h           h is below the deadline of task k, and 0 if that is ASAP
---   row_fault p at k r h      what is wrong with the row (k, r, h), if anything is; the fault names the place `at`
---   RowTaken at k r h p q a   taking that row turns the open plan p into q and answers a
---   Closed p o                closing p gives o: none while rows are missing, and else the plan with its list and rows
-use Rattle.std.specs.Prelude.{◌≡◌, ℕ, zero, suc, ◌+◌, ◌<◌, Bool, true, false, cond, not, ◌&&◌, ◌||◌, List, length, is_ok, Some, None, Option, Result, MatchOption, MatchResult, ◌==◌, nat_le, nat_lt, slice_index, slice_set}
+--   used_in rs r                  one of the rows rs has the rank r
+--   next_fits l rs k              k is the number of the row after rs, and is listed
+--   rank_fits l rs r              r is from 1 to the number of tasks, and none of the rows rs has it
+--   hold_fits l k h               h is below the deadline of task k, and 0 if that is ASAP
+--   plan_row_fault l rs at k r h  what is wrong with the row (k, r, h) after the rows rs, if anything is; the fault names the place `at`
+--   RowTaken at k r p q a         taking the row r of task k turns the open plan p into q and answers a
+--   Closed p o                    closing p gives o: none while rows are missing, and else the plan that p is
+use Rattle.std.specs.Prelude.{◌≡◌, ℕ, ◌<◌, Bool, true, false, cond, not, ◌&&◌, List, [], ◌∷◌, ◌++◌, length, is_ok, Some, None, Option, Result, MatchOption, MatchResult, ◌==◌, nat_le, nat_lt}
+use Rattle.std.specs.List.{list_any}
 use Rattle.tasks.specs.List.{listed, task_at}
+use Rattle.tasks.specs.declared.list.TaskList.{TaskList}
 use Rattle.tasks.specs.declared.task.Preference.{Preference}
 use Rattle.tasks.specs.declared.task.Preference.TheVariants.{Asap, Alap}
 use Rattle.analysis.specs.Demand.{deadline}
+use Rattle.planning.specs.Plans.{open_rows}
 use Rattle.planning.specs.declared.fault.RowFault.{RowFault}
 use Rattle.planning.specs.declared.fault.RowFault.TheVariants.{WrongTask, WrongRank, WrongHold}
 use Rattle.planning.specs.declared.plan.OpenPlan.{OpenPlan}
 use Rattle.planning.specs.declared.plan.Plan.{Plan}
+use Rattle.planning.specs.declared.plan.Row.{Row}
 
-abbrev pub used_below : List ℕ → ℕ → ℕ → Bool
-used_below rs zero r = false
-used_below rs (suc m) r = slice_index rs m == r || used_below rs m r
+abbrev pub used_in : List Row → ℕ → Bool
+used_in rs r = list_any (λ x. x.rank == r) rs
 
-abbrev pub next_fits : OpenPlan → ℕ → Bool
-next_fits p k = k == p.count && nat_lt k (length (listed p.list))
+abbrev pub next_fits : TaskList → List Row → ℕ → Bool
+next_fits l rs k = k == length rs && nat_lt k (length (listed l))
 
-abbrev pub rank_fits : OpenPlan → ℕ → Bool
-rank_fits p r = nat_le 1 r && nat_le r (length (listed p.list)) && not (used_below p.ranks p.count r)
+abbrev pub rank_fits : TaskList → List Row → ℕ → Bool
+rank_fits l rs r = nat_le 1 r && nat_le r (length (listed l)) && not (used_in rs r)
 
 abbrev pub prompt_fits : Preference → ℕ → Bool
 prompt_fits Asap h = h == 0
 prompt_fits Alap h = true
 
-abbrev pub hold_fits : OpenPlan → ℕ → ℕ → Bool
-hold_fits p k h = nat_lt h (deadline p.list (task_at p.list k)) && prompt_fits (task_at p.list k).preference h
+abbrev pub hold_fits : TaskList → ℕ → ℕ → Bool
+hold_fits l k h = nat_lt h (deadline l (task_at l k)) && prompt_fits (task_at l k).preference h
 
-abbrev pub row_fault : OpenPlan → ℕ → ℕ → ℕ → ℕ → Option RowFault
-row_fault p at k r h =
-    cond (not (next_fits p k)) (Some (WrongTask at))
-    (cond (not (rank_fits p r)) (Some (WrongRank at))
-    (cond (not (hold_fits p k h)) (Some (WrongHold at)) None))
+abbrev pub plan_row_fault : TaskList → List Row → ℕ → ℕ → ℕ → ℕ → Option RowFault
+plan_row_fault l rs at k r h =
+    cond (not (next_fits l rs k)) (Some (WrongTask at))
+    (cond (not (rank_fits l rs r)) (Some (WrongRank at))
+    (cond (not (hold_fits l k h)) (Some (WrongHold at)) None))
 
-pub record RowTaken (at k r h : ℕ) (p q : OpenPlan) (answer : Result (Unit {0}) RowFault) : Type 0 where
-  pub says : MatchResult answer (λ _. row_fault p at k r h ≡ None) (λ f. row_fault p at k r h ≡ Some f)
+pub record RowTaken (at k : ℕ) (r : Row) (p q : OpenPlan) (answer : Result (Unit {0}) RowFault) : Type 0 where
+  pub says : MatchResult answer (λ _. plan_row_fault p.list (open_rows p) at k r.rank r.hold ≡ None) (λ f. plan_row_fault p.list (open_rows p) at k r.rank r.hold ≡ Some f)
   pub list : q.list ≡ p.list
-  pub count : q.count ≡ cond (is_ok answer) (p.count + 1) p.count
-  pub ranks : q.ranks ≡ cond (is_ok answer) (slice_set p.ranks p.count r) p.ranks
-  pub holds : q.holds ≡ cond (is_ok answer) (slice_set p.holds p.count h) p.holds
-
-pub record Same (p : OpenPlan) (q : Plan) : Type 0 where
-  pub list : q.list ≡ p.list
-  pub ranks : q.ranks ≡ p.ranks
-  pub holds : q.holds ≡ p.holds
+  pub rows : open_rows q ≡ cond (is_ok answer) (open_rows p ++ r ∷ []) (open_rows p)
+  pub untouched : is_ok answer ≡ false → q ≡ p
 
 abbrev pub Closed : OpenPlan → Option Plan → Type 0
-Closed p o = MatchOption o (p.count < length (listed p.list)) (λ q. (p.count ≡ length (listed p.list)) × Same p q)
+Closed p o = MatchOption o (length (open_rows p) < length (listed p.list)) (λ q. (length (open_rows p) ≡ length (listed p.list)) × (q.made ≡ p))

@@ -10,7 +10,7 @@ use Rattle.std.specs.Prelude.{◌≡◌, ℕ, suc, ◌+◌, ◌<◌, ◌≤◌, 
 use Rattle.analysis.specs.Response.{Response}
 use Rattle.planning.specs.Counts.{releases_of, due_of, released_in, due_in, kept_in, awaited}
 use Rattle.planning.specs.Logs.{Entry, Log, now, known, age, served, ended}
-use Rattle.planning.specs.Plans.{size, held_for, above, charge_of, deadline_of}
+use Rattle.planning.specs.Plans.{list_of, size, held_for, above, charge_of, deadline_of}
 use Rattle.planning.specs.Replays.{log_of}
 use Rattle.planning.specs.Runs.{clock_end, Pends, Lawful, Accepts, Run}
 use Rattle.planning.specs.declared.event.Event.{Event}
@@ -38,4 +38,4 @@ pub record InWindow (p : Plan) (k r : ℕ) (l : Log) : Type 0 where
   pub none_pends : Pends p l k → age k l < held_for p k + r
 
 abbrev pub WindowsHold : Type 0
-WindowsHold = (p : Plan) (k r : ℕ) → k < size p → Response p.list (above p k) k r → (es : List Event) (l : Log) → Run p es l → InWindow p k r l
+WindowsHold = (p : Plan) (k r : ℕ) → k < size p → Response (list_of p) (above p k) k r → (es : List Event) (l : Log) → Run p es l → InWindow p k r l

@@ -1,7 +1,7 @@
 -- Plans of lists that are written out, by the definitions alone.
 --
 --   task_of n p c q       the task with these parts, where they keep the limits
---   list_of ts            the closed list of the tasks ts
+--   list_with ts          the closed list of the tasks ts
 --   standing_list         the standing list
 --   bounds_from l rs k n  the responses of n tasks of l from task k on, each below the tasks of greater rank by the ranks rs
 --   Standing              the standing list's plan
@@ -14,7 +14,7 @@ use Rattle.tasks.specs.declared.task.Preference.{Preference}
 use Rattle.tasks.specs.declared.task.Preference.TheVariants.{Asap, Alap}
 use Rattle.tasks.specs.declared.task.Task.{Task}
 use Rattle.analysis.specs.Response.{response}
-use Rattle.planning.specs.Orders.{above_in}
+use Rattle.planning.specs.Orders.{ranks as ranks_of, holds as holds_of, above_in}
 use Rattle.planning.specs.Rounds.{planned}
 
 -- the name's bytes, with zeros behind them
@@ -33,12 +33,12 @@ task_of n p c q n1 n2 n3 a b d = record {
 abbrev filled : List Task → List Task
 filled ts = ts ++ replicate (32 - length ts) filler
 
-abbrev pub list_of : (ts : List Task) → T (nat_le (length ts) 32) → T (length (filled ts) == 32) → TaskList
-list_of ts a b = record { tasks = filled ts; count = length ts; room = (leb→le (length ts) 32 a, eqb→eq (length (filled ts)) 32 b) }
+abbrev pub list_with : (ts : List Task) → T (nat_le (length ts) 32) → T (length (filled ts) == 32) → TaskList
+list_with ts a b = record { tasks = filled ts; count = length ts; room = (leb→le (length ts) 32 a, eqb→eq (length (filled ts)) 32 b) }
 
 abbrev pub standing_list : TaskList
 standing_list =
-    list_of
+    list_with
     (task_of (codes "antenna-a") Asap 1 5 tt tt tt tt tt tt
     ∷ task_of (codes "antenna-b") Asap 1 5 tt tt tt tt tt tt
     ∷ task_of (codes "pick") Asap 2 20 tt tt tt tt tt tt
@@ -55,8 +55,8 @@ bounds_from l rs k (suc n) = response l (above_in rs (slice_index rs k)) k ∷ b
 
 pub record Standing : Type 0 where
   pub list : rows (listed standing_list) ≡ standing
-  pub ranks : take 8 (planned (response standing_list) standing_list).ranks ≡ 7 ∷ 8 ∷ 6 ∷ 5 ∷ 4 ∷ 3 ∷ 2 ∷ 1 ∷ []
+  pub ranks : ranks_of (take 8 (planned (response standing_list) standing_list).rows) ≡ 7 ∷ 8 ∷ 6 ∷ 5 ∷ 4 ∷ 3 ∷ 2 ∷ 1 ∷ []
   pub bounds : bounds_from standing_list (7 ∷ 8 ∷ 6 ∷ 5 ∷ 4 ∷ 3 ∷ 2 ∷ 1 ∷ []) 0 8 ≡ Some 2 ∷ Some 1 ∷ Some 4 ∷ Some 5 ∷ Some 13 ∷ Some 20 ∷ Some 28 ∷ Some 29 ∷ []
-  pub holds : take 8 (planned (response standing_list) standing_list).holds ≡ 0 ∷ 0 ∷ 0 ∷ 0 ∷ 37 ∷ 80 ∷ 172 ∷ 971 ∷ []
+  pub holds : holds_of (take 8 (planned (response standing_list) standing_list).rows) ≡ 0 ∷ 0 ∷ 0 ∷ 0 ∷ 37 ∷ 80 ∷ 172 ∷ 971 ∷ []
   pub questions : (planned (response standing_list) standing_list).questions ≡ 20
   pub left_over : (planned (response standing_list) standing_list).unplaced ≡ 0

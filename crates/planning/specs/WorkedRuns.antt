@@ -11,14 +11,15 @@
 --   too_soon             events of which some come too soon, or again
 --   NotesSo rs hs l      l is what that plan accepts of these
 --   FourTasksRun         the runs of two plans of the four tasks, what one of them refuses, and what a third misses
-use Rattle.std.specs.Prelude.{◌≡◌, ℕ, zero, suc, ◌%◌, cond, List, [], ◌∷◌, ◌++◌, take, Some, None, codes, Option, ◌==◌}
+use Rattle.std.specs.Prelude.{◌≡◌, ℕ, zero, suc, ◌%◌, cond, List, [], ◌∷◌, ◌++◌, Some, None, codes, Option, ◌==◌}
 use Rattle.tasks.specs.declared.list.TaskList.{TaskList}
 use Rattle.tasks.specs.declared.task.Preference.TheVariants.{Asap, Alap}
 use Rattle.planning.specs.Counts.{released_in, due_in, kept_in, missed_in, idle_in}
 use Rattle.planning.specs.Logs.{released, finished, ran, Log}
-use Rattle.planning.specs.Plans.{size, period_of}
+use Rattle.planning.specs.Orders.{ranks as ranks_of, holds as holds_of}
+use Rattle.planning.specs.Plans.{list_of, rows, size, period_of}
 use Rattle.planning.specs.Replays.{log_of}
-use Rattle.planning.specs.Worked.{task_of, list_of}
+use Rattle.planning.specs.Worked.{task_of, list_with}
 use Rattle.planning.specs.declared.event.Event.{Event}
 use Rattle.planning.specs.declared.event.Event.TheVariants.{Release, Finish, Tick}
 use Rattle.planning.specs.declared.plan.Plan.{Plan}
@@ -39,7 +40,7 @@ each_period p (suc t) = each_period p t ++ (releases_at p t (size p) ++ Tick ∷
 
 abbrev pub four_tasks : TaskList
 four_tasks =
-    list_of
+    list_with
     (task_of (codes "a") Asap 1 5 tt tt tt tt tt tt
     ∷ task_of (codes "b") Asap 3 10 tt tt tt tt tt tt
     ∷ task_of (codes "c") Alap 1 5 tt tt tt tt tt tt
@@ -48,9 +49,9 @@ four_tasks =
 
 pub record PlanWith (rs hs : List ℕ) : Type 0 where
   pub plan : Plan
-  pub list : plan.list ≡ four_tasks
-  pub ranks : take 4 plan.ranks ≡ rs
-  pub holds : take 4 plan.holds ≡ hs
+  pub list : list_of plan ≡ four_tasks
+  pub ranks : ranks_of (rows plan) ≡ rs
+  pub holds : holds_of (rows plan) ≡ hs
 
 pub record RunsSo (rs hs : List ℕ) (who : List (Option ℕ)) : Type 0 where
   pub of : PlanWith rs hs

@@ -1,39 +1,35 @@
 // A plan: a closed list with a rank and a hold for each of its tasks.
-ghost use Rattle.std.specs.Prelude.{◌≡◌, ◌≤◌, length};
-ghost use Rattle.planning.specs.Orders.{Ranked, Apart, Held, Prompt};
+ghost use Rattle.std.specs.Prelude.{◌≡◌, length};
+ghost use Rattle.fixed.specs.FixedVec.{elements};
+ghost use Rattle.planning.specs.Orders.{RowsKeep};
 ghost use Rattle.tasks.specs.List.{listed};
 
+use fixed::fixed_vec::FixedVec;
 use tasks::list::TaskList;
 
 pub mod calls;
 pub mod planner;
 pub mod rows;
 
-// The ranks of the listed tasks are different and go from 1 to their number; a hold is below the task's deadline, and 0 for
-// an ASAP task. A plan is neither copied nor cloned, so a call that takes one uses it up.
-#[derive(Drop)]
-pub struct Plan {
-    list: TaskList,
-    ranks: [u8; 32],
-    holds: [u16; 32],
-    ghost sizes: { (length ranks ≡ 32) × (length holds ≡ 32) },
-    ghost ranked: { Ranked list (length (listed list)) ranks },
-    ghost apart: { Apart (length (listed list)) ranks },
-    ghost held: { Held list (length (listed list)) holds },
-    ghost prompt: { Prompt list (length (listed list)) holds },
+// What a plan says of a task: its rank, where a greater one goes first, and for how many ticks its jobs are held back.
+#[derive(Clone, Copy, PartialEq, Eq, Debug)]
+pub struct Row {
+    pub rank: u8,
+    pub hold: u16,
 }
 
-// A plan in the making, row by row in task order: the first `count` ranks and holds keep what those of a plan keep.
+// A plan in the making, row by row in task order. Its rows keep the rules: their ranks are different and go from 1 to the number
+// of tasks; a hold is below the task's deadline, and 0 for an ASAP task.
 #[derive(Drop)]
 pub struct OpenPlan {
     list: TaskList,
-    ranks: [u8; 32],
-    holds: [u16; 32],
-    count: usize,
-    ghost few: { count ≤ length (listed list) },
-    ghost sizes: { (length ranks ≡ 32) × (length holds ≡ 32) },
-    ghost ranked: { Ranked list count ranks },
-    ghost apart: { Apart count ranks },
-    ghost held: { Held list count holds },
-    ghost prompt: { Prompt list count holds },
+    rows: FixedVec<Row, 32>,
+    ghost keep: { RowsKeep list (elements rows) },
+}
+
+// A plan that has a row for every task. It is neither copied nor cloned, so a call that takes one uses it up.
+#[derive(Drop)]
+pub struct Plan {
+    made: OpenPlan,
+    ghost full: { length (elements made.rows) ≡ length (listed made.list) },
 }

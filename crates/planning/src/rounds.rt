@@ -1,4 +1,11 @@
 // What the rounds of planning work on.
+ghost use Rattle.std.specs.Prelude.{◌≡◌, ℕ, ◌<◌, length};
+ghost use Rattle.tasks.specs.List.{listed};
+ghost use Rattle.tasks.specs.Set.{bit};
+
+use crate::plan::Row;
+use tasks::list::TaskList;
+
 pub mod calls;
 
 // A task that the test has a bound for. Its slack is its deadline minus that bound.
@@ -16,11 +23,19 @@ pub struct Found {
     pub best: Option<Candidate>,
 }
 
-// A plan in the making. The ranks and holds of unplaced tasks are 0.
+// A round: the test, the list, and the set of the unplaced tasks, which are all listed.
+#[derive(Drop)]
+pub struct Round<'a, T> {
+    test: &'a T,
+    list: &'a TaskList,
+    unplaced: u32,
+    ghost only_listed: { (k : ℕ) → bit unplaced k ≡ 1 → k < length (listed list.now) },
+}
+
+// A plan in the making: a row for each task by its number. Rank and hold of unplaced tasks are 0.
 #[derive(Clone, Copy)]
 pub struct Draft {
     pub unplaced: u32,
     pub questions: u32,
-    pub ranks: [u8; 32],
-    pub holds: [u16; 32],
+    pub rows: [Row; 32],
 }

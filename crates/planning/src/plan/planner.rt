@@ -5,11 +5,12 @@ ghost use Rattle.planning.specs.Planning.{tally as tally_of, answered, Written, 
 ghost use Rattle.planning.specs.Plans.{Fits};
 ghost use Rattle.std.specs.Prelude.{◌≡◌, true, false, is_ok};
 
-use super::Plan;
+use super::{OpenPlan, Plan};
 use crate::fault::{PlanFault, Tally};
 use crate::rounds::calls::rounds;
 use analysis::exact::ExactTest;
 use analysis::test::Test;
+use fixed::fixed_vec::FixedVec;
 use tasks::list::TaskList;
 
 // Plans the list by the test. If every task is placed, the plan is written to `place`; otherwise the call is refused, with the
@@ -35,13 +36,11 @@ pub fn plan<T: Test>(test: &T, list: &TaskList, place: &mut Plan) -> Result<Tall
     if left != 0 {
         return Err(PlanFault::LeftOver(tally));
     }
-    let ranks = draft.ranks;
-    let holds = draft.holds;
-    *place = Plan {
+    let made = OpenPlan {
         list: *list,
-        ranks,
-        holds,
+        rows: FixedVec::first_of(draft.rows, list.len()),
     };
+    *place = Plan { made };
     Ok(tally)
 }
 

@@ -4,11 +4,12 @@ ghost use Rattle.analysis.specs.Question.{Premises};
 ghost use Rattle.planning.specs.Choices.{Stuck};
 ghost use Rattle.planning.specs.Drafts.{Drafted};
 ghost use Rattle.planning.specs.Passing.{RoundPlaces};
-ghost use Rattle.planning.specs.Rounds.{asks, candidate, considered, search as search_of, round as round_of, hold_of, placed_in, begun, planned};
-ghost use Rattle.tasks.specs.List.{listed, task_at};
-ghost use Rattle.tasks.specs.Set.{bit, without};
+ghost use Rattle.planning.specs.Rounds.{candidate, considered, search as search_of, round as round_of, hold_of, placed_in, begun, planned};
+ghost use Rattle.tasks.specs.List.{listed};
+ghost use Rattle.tasks.specs.Set.{without};
 
-use super::{Candidate, Draft, Found};
+use super::{Candidate, Draft, Found, Round};
+use crate::plan::Row;
 use analysis::test::Test;
 use tasks::list::TaskList;
 use tasks::set::{first_tasks, has, take_out};
@@ -21,15 +22,8 @@ impl Found {
         ensures { result ≡ considered self answer }
     {
         let best = match (self.best, answer) {
-            (Some(old), Some(new)) => {
-                if new.slack > old.slack {
-                    Some(new)
-                } else {
-                    Some(old)
-                }
-            }
-            (None, new) => new,
-            (old, None) => old,
+            (Some(old), Some(new)) if new.slack > old.slack => Some(new),
+            (old, new) => old.or(new),
         };
         Found {
             questions: self.questions + 1,
@@ -38,75 +32,61 @@ impl Found {
     }
 }
 
-// Whether a search for a preference asks about a task: it is in the set, and has that preference.
-fn is_asked(list: &TaskList, preference: Preference, unplaced: u32, task: usize) -> bool
-    requires { task < length (listed list.now) }
-    ensures { result ≡ asks list.now preference unplaced task }
-{
-    let asked = list.tasks()[task];
-    has(unplaced, task) && asked.preference == preference
-}
-
 // The answer to a question that is well put.
 pub(crate) fn answer<T: Test>(test: &T, list: &TaskList, set: u32, task: usize) -> Option<u16>
     requires { Premises list.now set task }
     ensures { result ≡ T.bound test.now list.now set task }
 {
-    match test.ask(list, set, task) {
-        Ok(bound) => bound,
-        Err(_) => unreachable(),
-    }
+    test.ask(list, set, task).unwrap()
 }
 
-// Puts the question about one task below the others of the set.
-fn ask_about<T: Test>(test: &T, list: &TaskList, unplaced: u32, task: usize) -> Option<Candidate>
-    requires { Premises list.now (without unplaced task) task }
-    ensures { result ≡ candidate list.now task (T.bound test.now list.now (without unplaced task) task) }
-{
-    let period = list.tasks()[task].period;
-    match answer(test, list, take_out(unplaced, task), task) {
-        Some(bound) => Some(Candidate {
+impl<T: Test> Round<'_, T> {
+    // Puts the question about one of the unplaced tasks below the others.
+    fn ask_about(&self, task: usize) -> Option<Candidate>
+        requires { task < length (listed self.now.list.now) }
+        ensures { result ≡ candidate self.now.list.now task (T.bound self.now.test.now self.now.list.now (without self.now.unplaced task) task) }
+    {
+        let deadline = self.list.tasks()[task].period;
+        let bound = answer(self.test, self.list, take_out(self.unplaced, task), task)?;
+        Some(Candidate {
             task,
             bound,
-            slack: period.saturating_sub(bound),
-        }),
-        None => None,
+            slack: deadline.saturating_sub(bound),
+        })
     }
-}
 
-// One search of a round: the question about each task of the set that has the preference.
-fn search<T: Test>(test: &T, list: &TaskList, preference: Preference, unplaced: u32) -> Found
-    requires { (k : ℕ) → bit unplaced k ≡ 1 → k < length (listed list.now) }
-    ensures value { result ≡ search_of (T.bound test.now list.now) list.now preference unplaced }
-    ensures few { result.questions ≤ 32 }
-{
-    let mut found = Found {
-        questions: 0,
-        best: None,
-    };
-    for k in 0..list.len() {
-        if is_asked(list, preference, unplaced, k) {
-            found = found.after(ask_about(test, list, unplaced, k));
+    // One search: the question about each unplaced task that has the preference.
+    fn search(&self, preference: Preference) -> Found
+        ensures value { result ≡ search_of (T.bound self.now.test.now self.now.list.now) self.now.list.now preference self.now.unplaced }
+        ensures few { result.questions ≤ 32 }
+    {
+        let mut found = Found {
+            questions: 0,
+            best: None,
+        };
+        for (task, asked) in self.list.tasks().iter().enumerate() {
+            if has(self.unplaced, task) && asked.preference == preference {
+                found = found.after(self.ask_about(task));
+            }
         }
+        found
     }
-    found
-}
 
-// A round: a search among the ALAP tasks, and only if that finds no candidate, one among the ASAP tasks. If some order passes, a set
-// with a task has a candidate.
-fn round<T: Test>(test: &T, list: &TaskList, unplaced: u32) -> Found
-    requires { (k : ℕ) → bit unplaced k ≡ 1 → k < length (listed list.now) }
-    ensures value { result ≡ round_of (T.bound test.now list.now) list.now unplaced }
-    ensures places { RoundPlaces (T.bound test.now list.now) list.now unplaced result.best }
-{
-    let late = search(test, list, Preference::Alap, unplaced);
-    if late.best.is_some() {
-        return late;
-    }
-    let soon = search(test, list, Preference::Asap, unplaced);
-    Found {
-        questions: late.questions + soon.questions,
-        best: soon.best,
+    // What the round finds: a search among the ALAP tasks, and only if that finds no candidate, one among the ASAP tasks. If some
+    // order passes, a set with a task has a candidate.
+    fn found(&self) -> Found
+        ensures value { result ≡ round_of (T.bound self.now.test.now self.now.list.now) self.now.list.now self.now.unplaced }
+        ensures places { RoundPlaces (T.bound self.now.test.now self.now.list.now) self.now.list.now self.now.unplaced result.best }
+    {
+        let late = self.search(Preference::Alap);
+        if late.best.is_some() {
+            return late;
+        }
+        let soon = self.search(Preference::Asap);
+        Found {
+            questions: late.questions + soon.questions,
+            best: soon.best,
+        }
     }
 }
 
@@ -130,8 +110,7 @@ impl Draft {
         Draft {
             unplaced: first_tasks(list.len()),
             questions: 0,
-            ranks: [0; 32],
-            holds: [0; 32],
+            rows: [Row { rank: 0, hold: 0 }; 32],
         }
     }
 
@@ -141,8 +120,8 @@ impl Draft {
         ensures { self.new ≡ placed_in list.now self.old chosen rank }
     {
         self.unplaced = take_out(self.unplaced, chosen.task);
-        self.ranks[chosen.task] = rank;
-        self.holds[chosen.task] = hold(list, chosen);
+        let hold = hold(list, chosen);
+        self.rows[chosen.task] = Row { rank, hold };
     }
 }
 
@@ -154,13 +133,18 @@ pub(crate) fn rounds<T: Test>(test: &T, list: &TaskList) -> Draft
     ensures few { 2 * result.questions ≤ length (listed list.now) * (length (listed list.now) + 1) }
 {
     let mut draft = Draft::begin(list);
-    for placed in 0..list.len() {
-        let found = round(test, list, draft.unplaced);
+    for rank in 1..=list.len() as u8 {
+        let round = Round {
+            test,
+            list,
+            unplaced: draft.unplaced,
+        };
+        let found = round.found();
         draft.questions += found.questions;
         let Some(chosen) = found.best else {
             return draft;
         };
-        draft.place(list, chosen, placed as u8 + 1);
+        draft.place(list, chosen, rank);
     }
     draft
 }

@@ -1,8 +1,8 @@
--- The set of the tasks from k on that are above, at bit 0 on.
-use Rattle.std.proofs.Common.{◌≡◌, length, take, drop}
-use Rattle.tasks.specs.List.{listed}
-use Rattle.planning.specs.Orders.{above_in}
+-- The set of the tasks before this one that are above.
+use Rattle.std.proofs.Common.{◌≡◌, take}
+use Rattle.planning.specs.Orders.{ranks, above_in}
+use Rattle.planning.specs.Plans.{rows}
 use Rattle.planning.proofs.plan.Plan.above.Given as goal
 
-abbrev pub invariant-loop-k : goal.invariant-loop-k
-invariant-loop-k l = l.set ≡ above_in (drop l.k (take (length (listed l.self.list)) l.self.ranks)) l.own
+abbrev pub invariant-loop-task : goal.invariant-loop-task
+invariant-loop-task l = l.set ≡ above_in (take l.task (ranks (rows l.self))) l.rank
