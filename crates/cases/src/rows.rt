@@ -7,7 +7,7 @@ use tasks::fault::{Layer, Refusal};
 use tasks::list::OpenList;
 
 // A row with this rank and this hold.
-fn row(rank: u8, hold: u16) -> Row {
+fn plan_row(rank: u8, hold: u16) -> Row {
     Row { rank, hold }
 }
 
@@ -36,16 +36,16 @@ fn by_rows(rt: HostRuntime) -> Result<(), Fail> {
     assert_eq!(rt; open.add(row(b"card", 1, 1, 10))?, 1);
     let list = open.close();
     let mut rows = OpenPlan::begin(&list);
-    refuses(&rt, rows.row(70, 1, row(1, 0)), 13)?;
-    refuses(&rt, rows.row(70, 0, row(0, 0)), 14)?;
-    refuses(&rt, rows.row(70, 0, row(3, 0)), 14)?;
-    refuses(&rt, rows.row(70, 0, row(2, 1)), 15)?;
-    rows.row(70, 0, row(2, 0))?;
-    refuses(&rt, rows.row(70, 0, row(1, 0)), 13)?;
-    refuses(&rt, rows.row(70, 1, row(2, 0)), 14)?;
-    refuses(&rt, rows.row(70, 1, row(1, 10)), 15)?;
-    rows.row(70, 1, row(1, 9))?;
-    refuses(&rt, rows.row(70, 2, row(1, 0)), 13)?;
+    refuses(&rt, rows.row(70, 1, plan_row(1, 0)), 13)?;
+    refuses(&rt, rows.row(70, 0, plan_row(0, 0)), 14)?;
+    refuses(&rt, rows.row(70, 0, plan_row(3, 0)), 14)?;
+    refuses(&rt, rows.row(70, 0, plan_row(2, 1)), 15)?;
+    rows.row(70, 0, plan_row(2, 0))?;
+    refuses(&rt, rows.row(70, 0, plan_row(1, 0)), 13)?;
+    refuses(&rt, rows.row(70, 1, plan_row(2, 0)), 14)?;
+    refuses(&rt, rows.row(70, 1, plan_row(1, 10)), 15)?;
+    rows.row(70, 1, plan_row(1, 9))?;
+    refuses(&rt, rows.row(70, 2, plan_row(1, 0)), 13)?;
     let Some(plan) = rows.close() else {
         return Err(Fail::new("rows are missing"));
     };
@@ -65,8 +65,8 @@ fn longest_hold(rt: HostRuntime) -> Result<(), Fail> {
     assert_eq!(rt; open.add(row(b"card", 1, 1, 10))?, 1);
     let list = open.close();
     let mut rows = OpenPlan::begin(&list);
-    rows.row(0, 0, row(2, 0))?;
-    rows.row(1, 1, row(1, 8))?;
+    rows.row(0, 0, plan_row(2, 0))?;
+    rows.row(1, 1, plan_row(1, 8))?;
     let Some(plan) = rows.close() else {
         return Err(Fail::new("rows are missing"));
     };

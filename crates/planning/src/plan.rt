@@ -18,6 +18,11 @@ pub struct Row {
     pub hold: u16,
 }
 
+impl Row {
+    // The row of a task that is not placed.
+    pub(crate) const NONE: Row = Row { rank: 0, hold: 0 };
+}
+
 // A plan in the making, row by row in task order. Its rows keep the rules: their ranks are different and go from 1 to the number
 // of tasks; a hold is below the task's deadline, and 0 for an ASAP task.
 #[derive(Drop)]

@@ -28,7 +28,7 @@ impl Plan {
     }
 
     // The rows, in task order.
-    fn rows(&self) -> &[Row]
+    pub fn rows(&self) -> &[Row]
         ensures { result.now ≡ rows_of self.now }
     {
         self.made.rows.as_slice()
@@ -77,9 +77,8 @@ impl Plan {
             return false;
         };
         let deadline = u32::from(asked.period);
-        self.hold(task).zip(self.response(task)).is_some_and(|(hold, ticks)| u32::from(hold)
-            + u32::from(ticks)
-            <= deadline)
+        let run = self.hold(task).zip(self.response(task));
+        run.is_some_and(|(hold, ticks)| u32::from(hold) + u32::from(ticks) <= deadline)
     }
 
     // Whether every task has a response that, after its hold, is in time.

@@ -18,8 +18,10 @@ impl OpenPlan {
         ensures empty { open_rows result ≡ [] }
         ensures blank { result.rows.places ≡ replicate 32 no_row }
     {
-        let rows = FixedVec::new(Row { rank: 0, hold: 0 });
-        OpenPlan { list: *list, rows }
+        OpenPlan {
+            list: *list,
+            rows: FixedVec::new(Row::NONE),
+        }
     }
 
     // Whether an earlier row has the rank.

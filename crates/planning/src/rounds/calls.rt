@@ -4,7 +4,7 @@ ghost use Rattle.analysis.specs.Question.{Premises};
 ghost use Rattle.planning.specs.Choices.{Stuck};
 ghost use Rattle.planning.specs.Drafts.{Drafted};
 ghost use Rattle.planning.specs.Passing.{RoundPlaces};
-ghost use Rattle.planning.specs.Rounds.{candidate, considered, search as search_of, round as round_of, hold_of, placed_in, begun, planned};
+ghost use Rattle.planning.specs.Rounds.{candidate, considered, search as search_of, round as round_of, hold_by, placed_in, begun, planned};
 ghost use Rattle.tasks.specs.List.{listed};
 ghost use Rattle.tasks.specs.Set.{without};
 
@@ -90,15 +90,15 @@ impl<T: Test> Round<'_, T> {
     }
 }
 
-// The hold of a task that is placed.
-fn hold(list: &TaskList, chosen: Candidate) -> u16
-    requires { chosen.task < length (listed list.now) }
-    ensures { result ≡ hold_of list.now chosen }
-{
-    let task = list.tasks()[chosen.task];
-    match task.preference {
-        Preference::Asap => 0,
-        Preference::Alap => chosen.slack,
+impl Candidate {
+    // The hold of a task of this preference, once it is placed: an ALAP task is held for its slack.
+    fn hold(self, preference: Preference) -> u16
+        ensures { result ≡ hold_by preference self.slack }
+    {
+        match preference {
+            Preference::Asap => 0,
+            Preference::Alap => self.slack,
+        }
     }
 }
 
@@ -110,7 +110,7 @@ impl Draft {
         Draft {
             unplaced: first_tasks(list.len()),
             questions: 0,
-            rows: [Row { rank: 0, hold: 0 }; 32],
+            rows: [Row::NONE; 32],
         }
     }
 
@@ -120,7 +120,7 @@ impl Draft {
         ensures { self.new ≡ placed_in list.now self.old chosen rank }
     {
         self.unplaced = take_out(self.unplaced, chosen.task);
-        let hold = hold(list, chosen);
+        let hold = chosen.hold(list.tasks()[chosen.task].preference);
         self.rows[chosen.task] = Row { rank, hold };
     }
 }
