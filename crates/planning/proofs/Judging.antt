@@ -34,7 +34,7 @@ is_listed ts k t d e = (slice_get_within ts k t (sym e), sym (get_or_from_slice_
 pub not_listed : (ts : List Task) (k : ℕ) → None ≡ slice_get ts k → length ts ≤ k
 not_listed ts k e =
     elim (slice_get_cases ts k).1 [
-      | inl here ↦ (let clash : None ≡ Some here.0 = e ∙ here.1.1.0 in cc)
+      | inl here ↦ (let clash : None ≡ Some here.0 = e ∙ here.2 in cc)
       | inr past ↦ past.0
     ]
 
