@@ -1,4 +1,3 @@
 pub mod Searching
 pub mod Laying
 pub mod Ordering
-pub mod Holding

@@ -1,9 +1,9 @@
 // The orders in which held and ready jobs stand.
-ghost use Rattle.queue.specs.Entries.{held_le, ready_le};
+ghost use Rattle.queue.specs.Entries.{held_le, ready_le, ready_cmp};
 ghost use Rattle.std.proofs.Common.{rules};
 ghost use Rattle.std.specs.Cmp.{partial_order_from_own_ties};
 ghost use Rattle.std.specs.Cmp.Rules.{comparing};
-ghost use Rattle.std.specs.Ordering.{is_le, nat_cmp, on, flip_args, then_cmp, as_partial_cmp};
+ghost use Rattle.std.specs.Ordering.{is_le, as_partial_cmp};
 ghost use Rattle.std.specs.Prelude.{◌≡◌};
 
 use super::{Held, Ready};
@@ -25,7 +25,7 @@ fn ready_order()
 {}
 
 impl Ord for Ready {
-    ghost cmp = { then_cmp (flip_args (on (λ j. j.rank) nat_cmp)) (on (λ j. j.task) nat_cmp) };
+    ghost cmp = { ready_cmp };
 
     ghost total = { Prim.search (comparing, rules) };
 
@@ -39,7 +39,7 @@ impl Ord for Ready {
 }
 
 impl PartialOrd for Ready {
-    ghost partial_cmp = { as_partial_cmp (then_cmp (flip_args (on (λ j. j.rank) nat_cmp)) (on (λ j. j.task) nat_cmp)) };
+    ghost partial_cmp = { as_partial_cmp ready_cmp };
 
     ghost laws = { partial_order_from_own_ties (Prim.search (comparing, rules)) (Prim.search (comparing, rules)) };
 

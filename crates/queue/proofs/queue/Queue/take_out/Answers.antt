@@ -4,7 +4,7 @@ use Rattle.std.proofs.lemmas.Grind.{common_steps}
 use Rattle.queue.specs.Queues.{held, memory, Takes}
 use Rattle.queue.specs.Sequences.{drop_one, holds, laid}
 use Rattle.queue.proofs.Searching.{length_without}
-use Rattle.queue.proofs.Holding.{held_after}
+use Rattle.queue.proofs.Laying.{laid_front}
 use Rattle.queue.proofs.Ordering.{removal_sorted, removal_shuffles}
 use Rattle.queue.proofs.queue.Queue.take_out.Goals as goal
 
@@ -21,10 +21,10 @@ returns g c =
       count = grind (arith, common_steps);
       lender = refl;
     } in
-    let now = held_after _ _ _ takes in
+    let now = laid_front _ _ _ _ takes.memory_after takes.count in
     record {
       found = found;
       rest = takes;
       stays_sorted = λ up. subst (IsSorted cmp) (sym now) (removal_sorted g.met.T.Ord.total (held q) (position_or_len equal (held q)) up);
-      one_fewer = λ e. subst (λ es. IsPermutation (held q) (c.args.wanted ∷ es)) (sym now) (removal_shuffles g.met.T.Ord.total g.met.T.Ordered.same c.args.wanted (held q) (sym found ∙ e));
+      one_fewer = λ e. subst (λ es. IsPermutation (held q) (c.args.wanted ∷ es)) (sym now) (removal_shuffles g.met.T.Ordered.same c.args.wanted (held q) (sym found ∙ e));
     }
