@@ -57,9 +57,9 @@ fn standing(rt: HostRuntime) -> Result<(), Fail> {
 fn left_over(rt: HostRuntime) -> Result<(), Fail> {
     let mut plan = Plan::empty();
     let mut open = OpenList::new();
-    assert_eq!(rt; open.add(b"a", 0, 2, 5)?, 0);
-    assert_eq!(rt; open.add(b"b", 0, 4, 7)?, 1);
-    assert_eq!(rt; open.add(b"c", 0, 1, 1000)?, 2);
+    assert_eq!(rt; open.add(row(b"a", 0, 2, 5))?, 0);
+    assert_eq!(rt; open.add(row(b"b", 0, 4, 7))?, 1);
+    assert_eq!(rt; open.add(row(b"c", 0, 1, 1000))?, 2);
     leaves(
         &rt,
         plan_exact(&open.close(), &mut plan),
@@ -71,8 +71,8 @@ fn left_over(rt: HostRuntime) -> Result<(), Fail> {
     )?;
     assert_eq!(rt; plan.list().len(), 0);
     let mut full = OpenList::new();
-    assert_eq!(rt; full.add(b"a", 0, 2, 4)?, 0);
-    assert_eq!(rt; full.add(b"b", 0, 3, 6)?, 1);
+    assert_eq!(rt; full.add(row(b"a", 0, 2, 4))?, 0);
+    assert_eq!(rt; full.add(row(b"b", 0, 3, 6))?, 1);
     leaves(
         &rt,
         plan_exact(&full.close(), &mut plan),
@@ -90,8 +90,8 @@ fn left_over(rt: HostRuntime) -> Result<(), Fail> {
 fn other_tests(rt: HostRuntime) -> Result<(), Fail> {
     let mut made = Plan::empty();
     let mut open = OpenList::new();
-    assert_eq!(rt; open.add(b"long", 0, 6, 11)?, 0);
-    assert_eq!(rt; open.add(b"short", 0, 2, 5)?, 1);
+    assert_eq!(rt; open.add(row(b"long", 0, 6, 11))?, 0);
+    assert_eq!(rt; open.add(row(b"short", 0, 2, 5))?, 1);
     let list = open.close();
     assert_eq!(rt;
         plan_exact(&list, &mut made)?,
@@ -129,7 +129,7 @@ fn full_list(rt: HostRuntime) -> Result<(), Fail> {
     let mut made = Plan::empty();
     let mut open = OpenList::new();
     for _ in 0..32 {
-        let _ = open.add(b"a", 0, 1, 32)?;
+        let _ = open.add(row(b"a", 0, 1, 32))?;
     }
     let list = open.close();
     assert_eq!(rt;

@@ -32,8 +32,8 @@ fn refuses(rt: &impl Abort, answer: Result<(), RowFault>, number: u8) -> Result<
 #[test]
 fn by_rows(rt: HostRuntime) -> Result<(), Fail> {
     let mut open = OpenList::new();
-    assert_eq!(rt; open.add(b"read", 0, 1, 5)?, 0);
-    assert_eq!(rt; open.add(b"card", 1, 1, 10)?, 1);
+    assert_eq!(rt; open.add(row(b"read", 0, 1, 5))?, 0);
+    assert_eq!(rt; open.add(row(b"card", 1, 1, 10))?, 1);
     let list = open.close();
     let mut rows = OpenPlan::begin(&list);
     refuses(&rt, rows.row(70, 1, plan_row(1, 0)), 13)?;
@@ -61,8 +61,8 @@ fn by_rows(rt: HostRuntime) -> Result<(), Fail> {
 #[test]
 fn longest_hold(rt: HostRuntime) -> Result<(), Fail> {
     let mut open = OpenList::new();
-    assert_eq!(rt; open.add(b"read", 0, 1, 5)?, 0);
-    assert_eq!(rt; open.add(b"card", 1, 1, 10)?, 1);
+    assert_eq!(rt; open.add(row(b"read", 0, 1, 5))?, 0);
+    assert_eq!(rt; open.add(row(b"card", 1, 1, 10))?, 1);
     let list = open.close();
     let mut rows = OpenPlan::begin(&list);
     rows.row(0, 0, plan_row(2, 0))?;
