@@ -29,13 +29,13 @@ shown_is old new o at r e h = MatchOption-at_some _ _ (at, r) e h.answered
 
 -- a record that is neither a note nor the end record is not the last, and does what the rules say of it
 pub not_end : (x : Record) → ((b : _) → x ≡ Note b → ⊥) → ((n : ℕ) → x ≡ End n → ⊥) → is_end (view x) ≡ false
-not_end (Task p c q n) n1 n2 = refl
+not_end (Task r) n1 n2 = refl
 not_end (Note b) n1 n2 = absurd (n1 b refl)
 not_end (End n) n1 n2 = absurd (n2 n refl)
 not_end (Plan k r) n1 n2 = refl
 
 pub adds_only : {R F : Type 0} (g : Rules R F) (size at : ℕ) (rs : List R) (x : Record) → ((b : _) → x ≡ Note b → ⊥) → ((n : ℕ) → x ≡ End n → ⊥) → takes g size at rs (view x) ≡ g.adds at rs (view x)
-adds_only g size at rs (Task p c q n) n1 n2 = refl
+adds_only g size at rs (Task r) n1 n2 = refl
 adds_only g size at rs (Note b) n1 n2 = absurd (n1 b refl)
 adds_only g size at rs (End n) n1 n2 = absurd (n2 n refl)
 adds_only g size at rs (Plan k r) n1 n2 = refl

@@ -1,7 +1,8 @@
 -- The rows of a list file: what was laid out of a row that keeps the limits is read as it, a record that adds a row was laid out of it,
 -- and the rows of a closed list keep the limits. Of its bytes it takes that they are below 256.
 use Rattle.std.proofs.Common.{◌≡◌, ℕ, zero, suc, ◌<◌, ◌≤◌, true, List, [], ◌∷◌, ◌++◌, length, get_or, drop, Some, None, Ok, Option, refl, ap, ◌∙◌, arith, lit≤, length-append}
-use Rattle.std.proofs.lemmas.List.{length-take-le, length-map}
+use Rattle.std.proofs.Common.{length-take}
+use Rattle.std.proofs.lemmas.List.{length-map}
 use Rattle.std.proofs.lemmas.Bool.{le-leb, lt-leb, le-ltb, ne_eqb, leb-true, and_parts, and_from}
 use Rattle.std.specs.List.{AllByRecursion}
 use Rattle.files.specs.Decoding.{unless}
@@ -29,17 +30,14 @@ preference_small : (p : Preference) → preference_number p ≤ 1
 preference_small Asap = lit≤ tt
 preference_small Alap = lit≤ tt
 
-pub name_length : (n : Name) → length (name_of n) ≡ n.len
-name_length n = length-take-le n.len n.bytes (omega (arith, n.size))
-
 pub row_keeps : (t : Task) → KeepsLimits (row t)
 row_keeps t = record {
   preference = preference_small t.preference;
   some_cost = t.limits.0;
   cost = t.limits.1;
   period = t.limits.2;
-  named = omega (arith, name_length t.name, t.name.size);
-  name = omega (arith, name_length t.name, t.name.size);
+  named = t.name.some;
+  name = omega (arith, length-take t.name.bytes.len t.name.bytes.places, t.name.bytes.room);
 }
 
 rows_keep : (ts : List Task) → AllByRecursion KeepsLimits (rows ts)

@@ -31,7 +31,7 @@ pub data Said : Type 0 where
   plan : (task rank hold : ℕ) → Said
 
 abbrev pub view : Record → Said
-view (Task p c q n) = task p c q n.now
+view (Task r) = task r.preference r.cost r.period r.name.now
 view (Note b) = note b.now
 view (End n) = end n
 view (Plan t r) = plan t r.rank r.hold

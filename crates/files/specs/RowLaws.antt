@@ -1,7 +1,7 @@
 -- What the two kinds of files have in common, shown of each: what is the same but for the rows, and that a record is short.
 use Rattle.std.specs.Prelude.{◌≡◌, ℕ, ◌≤◌, length}
 use Rattle.std.proofs.Common.{refl, ap, ◌∙◌, arith, lit≤}
-use Rattle.std.proofs.lemmas.List.{length-take-le}
+use Rattle.std.proofs.Common.{length-take}
 use Rattle.files.specs.ListFiles.{task_record}
 use Rattle.files.specs.PlanFiles.{plan_rules, row_record}
 use Rattle.tasks.specs.List.{row}
@@ -10,7 +10,7 @@ use Rattle.planning.specs.declared.plan.OpenPlan.{OpenPlan}
 use Rattle.planning.specs.declared.plan.Row.{Row}
 
 pub task_short : (t : Task) → length (task_record (row t)) ≤ 25
-task_short t = omega (arith, length-take-le t.name.len t.name.bytes (omega (arith, t.name.size)), t.name.size)
+task_short t = omega (arith, length-take t.name.bytes.len t.name.bytes.places, t.name.bytes.room)
 
 pub same_list : (p : OpenPlan) → p.list ≡ p.list
 same_list p = refl

@@ -36,19 +36,11 @@ impl Gather for OpenList {
     }
 
     fn add_record(&mut self, at: u64, record: Record<'_>) -> Result<(), ListFault> {
-        let Record::Task {
-            preference,
-            cost,
-            period,
-            name,
-        } = record
-        else {
+        let Record::Task(row) = record else {
             return Err(FileFault::Bytes(ByteFault::WrongKind(at)));
         };
-        match self.add_at(at, name, preference, cost, period) {
-            Ok(_) => Ok(()),
-            Err(fault) => Err(FileFault::Row(fault)),
-        }
+        self.add_at(at, row).map_err(FileFault::Row)?;
+        Ok(())
     }
 }
 
@@ -60,7 +52,7 @@ impl Lay for Task {
     fn push(&self, _number: usize, text: &mut Text) {
         let [c0, c1] = self.cost.to_be_bytes();
         let [p0, p1] = self.period.to_be_bytes();
-        let numbers = [self.preference.number(), c0, c1, p0, p1];
+        let numbers = [self.preference.into(), c0, c1, p0, p1];
         push_record(text, Kind::Task, &numbers, self.name.bytes());
     }
 }

@@ -40,10 +40,7 @@ impl Gather for OpenPlan {
         let Record::Plan { task, row } = record else {
             return Err(FileFault::Bytes(ByteFault::WrongKind(at)));
         };
-        match self.row(at, usize::from(task), row) {
-            Ok(()) => Ok(()),
-            Err(fault) => Err(FileFault::Row(fault)),
-        }
+        self.row(at, usize::from(task), row).map_err(FileFault::Row)
     }
 }
 

@@ -1,5 +1,6 @@
 // Files and their records.
 use planning::plan::Row;
+use tasks::task::TaskRow;
 
 pub mod calls;
 
@@ -31,16 +32,8 @@ pub(crate) struct UnknownKind;
 // A record, with what its body says; names and notes are borrowed from the file.
 #[derive(Clone, Copy)]
 pub enum Record<'a> {
-    Task {
-        preference: u8,
-        cost: u16,
-        period: u16,
-        name: &'a [u8],
-    },
+    Task(TaskRow<'a>),
     Note(&'a [u8]),
     End(u16),
-    Plan {
-        task: u8,
-        row: Row,
-    },
+    Plan { task: u8, row: Row },
 }

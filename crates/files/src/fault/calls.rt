@@ -1,17 +1,15 @@
 // What the faults of files tell, and how a fault of the bytes becomes one of a file.
-ghost use Rattle.files.specs.Faults.{byte_refusal, list_refusal, plan_file_refusal};
+ghost use Rattle.files.specs.Faults.{byte_refusal, file_refusal};
 ghost use Rattle.files.specs.declared.fault.FileFault.TheVariants.{Bytes};
 ghost use Rattle.std.specs.Prelude.{◌≡◌};
 
 use super::{ByteFault, FileFault};
-use planning::fault::RowFault;
-use tasks::fault::{Layer, Refusal, TaskFault};
+use tasks::fault::{Layer, Refusal, Refuses};
 
-impl ByteFault {
-    // Number, layer and place of the fault.
-    pub fn refusal(self) -> Refusal
-        ensures { result ≡ byte_refusal self }
-    {
+impl Refuses for ByteFault {
+    ghost told = { byte_refusal };
+
+    fn refusal(self) -> Refusal {
         let (number, place) = match self {
             ByteFault::TooLong(place) => (1, place),
             ByteFault::CutOff(place) => (2, place),
@@ -30,23 +28,10 @@ impl ByteFault {
     }
 }
 
-impl FileFault<TaskFault> {
-    // Number, layer and place of the fault.
-    pub fn refusal(self) -> Refusal
-        ensures { result ≡ list_refusal self }
-    {
-        match self {
-            FileFault::Bytes(fault) => fault.refusal(),
-            FileFault::Row(fault) => fault.refusal(),
-        }
-    }
-}
+impl<F: Refuses> Refuses for FileFault<F> {
+    ghost told = { file_refusal F.told };
 
-impl FileFault<RowFault> {
-    // Number, layer and place of the fault.
-    pub fn refusal(self) -> Refusal
-        ensures { result ≡ plan_file_refusal self }
-    {
+    fn refusal(self) -> Refusal {
         match self {
             FileFault::Bytes(fault) => fault.refusal(),
             FileFault::Row(fault) => fault.refusal(),

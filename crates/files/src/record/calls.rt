@@ -4,6 +4,7 @@ ghost use Rattle.std.specs.Prelude.{◌≡◌, true, false, length, MatchOption}
 
 use super::{FileKind, Kind, Record, UnknownKind};
 use planning::plan::Row;
+use tasks::task::TaskRow;
 
 impl TryFrom<u8> for Kind {
     type Error = UnknownKind;
@@ -67,12 +68,12 @@ impl<'a> Record<'a> {
         ensures { view result ≡ said (kind_number kind) body.now }
     {
         match kind {
-            Kind::Task => Record::Task {
+            Kind::Task => Record::Task(TaskRow {
+                name: &body[5..],
                 preference: body[0],
                 cost: u16::from_be_bytes([body[1], body[2]]),
                 period: u16::from_be_bytes([body[3], body[4]]),
-                name: &body[5..],
-            },
+            }),
             Kind::Note => Record::Note(body),
             Kind::End => Record::End(u16::from_be_bytes([body[0], body[1]])),
             Kind::Plan => Record::Plan {
