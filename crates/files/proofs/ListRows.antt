@@ -16,10 +16,9 @@ use Rattle.files.proofs.Laid.{two_bytes_back}
 use Rattle.files.proofs.LaidOut.{high_back, low_back}
 use Rattle.tasks.proofs.Reading.{listed_few}
 use Rattle.tasks.specs.List.{Row, new_row, row, rows, listed, add_fault}
-use Rattle.tasks.specs.Task.{name_of, preference_number}
+use Rattle.tasks.specs.Task.{preference_number}
 use Rattle.tasks.specs.declared.fault.TaskFault.{TaskFault}
 use Rattle.tasks.specs.declared.list.TaskList.{TaskList}
-use Rattle.tasks.specs.declared.task.Name.{Name}
 use Rattle.tasks.specs.declared.task.Preference.{Preference}
 use Rattle.tasks.specs.declared.task.Preference.TheVariants.{Asap, Alap}
 use Rattle.tasks.specs.declared.task.Task.{Task}

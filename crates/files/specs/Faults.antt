@@ -4,7 +4,6 @@
 --   file_refusal row f   those of a file's fault: of its bytes, or of one of its rows, which tells what `row` says
 --   list_refusal f       those of a list file's fault: of its bytes, or of one of its tasks
 --   plan_file_refusal f  those of a plan file's fault: of its bytes, or of one of its rows
-use Rattle.std.specs.Prelude.{ℕ}
 use Rattle.files.specs.declared.fault.ByteFault.{ByteFault}
 use Rattle.files.specs.declared.fault.ByteFault.TheVariants.{TooLong, CutOff, WrongMark, WrongKind, WrongLength, WrongCount, BytesAfterEnd, ShortBuffer}
 use Rattle.files.specs.declared.fault.FileFault.{FileFault}

@@ -5,11 +5,9 @@ ghost use Rattle.files.specs.Format.{view};
 ghost use Rattle.files.specs.declared.fault.ByteFault.TheVariants.{WrongCount};
 
 use crate::fault::{ByteFault, FileFault};
+use crate::list_file::MAX_FILE;
 use crate::reader::Reader;
 use crate::record::{FileKind, Record};
-
-// The longest file, in bytes.
-pub const MAX_FILE: usize = 8_192;
 
 // How many bytes the end record takes.
 const END_SIZE: usize = 6;

@@ -14,6 +14,9 @@ use tasks::fault::TaskFault;
 use tasks::list::{OpenList, TaskList};
 use tasks::task::Task;
 
+// The longest file, in bytes.
+pub const MAX_FILE: usize = 8_192;
+
 impl Gather for OpenList {
     type Fault = TaskFault;
 
