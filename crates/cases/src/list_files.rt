@@ -29,10 +29,8 @@ fn any_name(rt: HostRuntime) -> Result<(), Fail> {
         b"\xa7\x5e\x02\x00\xa7\x5e\x01\x07\x01\x00\x02\x00\x09\x00\xff\xa7\x5e\x02\x00\xa7\x5e\x03\x02\x00\x01",
         &mut list,
     )?;
-    let Some(task) = list.task(0) else {
-        return Err(Fail::new("not listed"));
-    };
-    assert!(rt; task.name.bytes() == b"\x00\xff".as_slice());
+    let listed = list.task(0).ok_or(Fail::new("not listed"))?;
+    assert!(rt; listed.name.bytes() == b"\x00\xff".as_slice());
     Ok(())
 }
 
@@ -94,11 +92,9 @@ fn noted_file(rt: HostRuntime) -> Result<(), Fail> {
     let mut list = OpenList::new().close();
     read_list(&file, &mut list)?;
     assert_eq!(rt; list.len(), 1);
-    let Some(task) = list.task(0) else {
-        return Err(Fail::new("not listed"));
-    };
+    let listed = list.task(0).ok_or(Fail::new("not listed"))?;
     assert!(rt;
-        task.name.bytes()
+        listed.name.bytes()
             == b"\x00\x01\x02\x03\x04\x05\x06\x07\x80\xa7\x5e\xfb\xfc\xfd\xfe\xff".as_slice()
     );
     Ok(())

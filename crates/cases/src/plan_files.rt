@@ -1,5 +1,5 @@
 // Plan files, read and written.
-use crate::says::{is_refused, row};
+use crate::says::{is_refused, task};
 use files::list_file::read_list;
 use files::plan_file::{read_plan, write_plan};
 use planning::plan::Plan;
@@ -53,8 +53,8 @@ fn refuses(
 // A list of an ASAP task (1,5) and an ALAP task (1,10).
 fn two_tasks() -> TaskList {
     let mut open = OpenList::new();
-    let _ = open.add(row(b"read", 0, 1, 5));
-    let _ = open.add(row(b"card", 1, 1, 10));
+    let _ = open.add(task(b"read", 0, 1, 5));
+    let _ = open.add(task(b"card", 1, 1, 10));
     open.close()
 }
 

@@ -1,4 +1,4 @@
-// What is answered and printed, against what should be, and rows of tasks in one line.
+// What is answered and printed, against what should be, and tasks in one line.
 use files::program::Outcome;
 use files::program::calls::plan_file;
 use std::process::Abort;
@@ -6,8 +6,8 @@ use std::test::Fail;
 use tasks::fault::{Layer, Refusal, Refuses};
 use tasks::task::TaskRow;
 
-// The row of a task.
-pub(crate) fn row(name: &[u8], preference: u8, cost: u16, period: u16) -> TaskRow<'_> {
+// A task as it is handed in.
+pub(crate) fn task(name: &[u8], preference: u8, cost: u16, period: u16) -> TaskRow<'_> {
     TaskRow {
         name,
         preference,

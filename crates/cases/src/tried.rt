@@ -2,7 +2,7 @@
 ghost use Rattle.std.specs.Prelude.{None};
 ghost use Rattle.std.proofs.Common.{rules};
 
-use crate::says::{is_refused, row};
+use crate::says::{is_refused, task};
 use analysis::exact::ExactTest;
 use analysis::fault::QuestionFault;
 use analysis::question::Question;
@@ -33,8 +33,8 @@ impl Test for NeverTest {
 #[test]
 fn two_tests(rt: HostRuntime) -> Result<(), Fail> {
     let mut open = OpenList::new();
-    assert_eq!(rt; open.add(row(b"below", 0, 1, 5))?, 0);
-    assert_eq!(rt; open.add(row(b"above", 0, 3, 4))?, 1);
+    assert_eq!(rt; open.add(task(b"below", 0, 1, 5))?, 0);
+    assert_eq!(rt; open.add(task(b"above", 0, 3, 4))?, 1);
     let list = open.close();
     assert_eq!(rt; ExactTest.ask(&list, 2, 0)?, Some(4));
     assert_eq!(rt; WholePeriodTest.ask(&list, 2, 0)?, None);
