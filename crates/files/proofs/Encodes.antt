@@ -29,7 +29,7 @@ module _ {R : Type 0} (f : ℕ → R → List ℕ) where
   items_of k (r ∷ rs) = ap (λ xs. f k r ++ xs) (items_of (suc k) rs)
 
   -- one row more at the end
-  pub rows_push : (k : ℕ) (rs : List R) (r : R) → rows_bytes f k (rs ++ r ∷ []) ≡ rows_bytes f k rs ++ f (k + length rs) r
+  rows_push : (k : ℕ) (rs : List R) (r : R) → rows_bytes f k (rs ++ r ∷ []) ≡ rows_bytes f k rs ++ f (k + length rs) r
   rows_push k [] r = append-nil (f k r) ∙ ap (λ j. f j r) (omega arith)
   rows_push k (x ∷ xs) r =
       let same : suc k + length xs ≡ k + suc (length xs) = omega arith in
@@ -37,11 +37,11 @@ module _ {R : Type 0} (f : ℕ → R → List ℕ) where
       ∙ sym (append_assoc (f k x) (rows_bytes f (suc k) xs) (f (k + suc (length xs)) r))
 
   -- the records of rows that take at most n bytes each
-  pub rows_short : (n k : ℕ) (rs : List R) → ((k : ℕ) (r : R) → length (f k r) ≤ n) → length (rows_bytes f k rs) ≤ n * length rs
+  rows_short : (n k : ℕ) (rs : List R) → ((k : ℕ) (r : R) → length (f k r) ≤ n) → length (rows_bytes f k rs) ≤ n * length rs
   rows_short n k [] h = omega arith
   rows_short n k (r ∷ rs) h = omega (arith, length-append (f k r) (rows_bytes f (suc k) rs), rows_short n (suc k) rs h, h k r)
 
-  pub is_file : (K : List R → Type 0) (rs : List R) → K rs → length (rows_bytes f 0 rs) ≤ 8000 → FileOf f K (encoded_by f rs) rs
+  is_file : (K : List R → Type 0) (rs : List R) → K rs → length (rows_bytes f 0 rs) ≤ 8000 → FileOf f K (encoded_by f rs) rs
   is_file K rs keep short = record {
     items = map row rs;
     fit = rows_fit rs;
@@ -70,7 +70,7 @@ pub sofar_all : {R : Type 0} (f : ℕ → R → List ℕ) (rs : List R) (i : ℕ
 sofar_all f rs i w w' h s e = e ∙ ap (λ xs. xs ++ end_record (length rs)) (s.records ∙ ap (rows_bytes f 0) (take_all i rs h))
 
 -- rows seen as other rows are laid out alike
-pub rows_seen : {R S : Type 0} (f : ℕ → S → List ℕ) (v : R → S) (k : ℕ) (rs : List R) → rows_bytes (λ j r. f j (v r)) k rs ≡ rows_bytes f k (map v rs)
+rows_seen : {R S : Type 0} (f : ℕ → S → List ℕ) (v : R → S) (k : ℕ) (rs : List R) → rows_bytes (λ j r. f j (v r)) k rs ≡ rows_bytes f k (map v rs)
 rows_seen f v k [] = refl
 rows_seen f v k (r ∷ rs) = ap (λ xs. f k (v r) ++ xs) (rows_seen f v (suc k) rs)
 

@@ -46,7 +46,7 @@ length_body bs h = length-take-le (get_or bs 3 0) (drop 4 bs) (omega (arith, len
 pub within : (f : FileKind) (at : ℕ) (bs : List ℕ) → head_fault f at (drop at bs) ≡ None → at + size (drop at bs) ≤ length bs
 within f at bs e = let s = sound f at (drop at bs) e in omega (arith, s.whole, s.long, length-drop at bs)
 
-pub ends_is : (k : ℕ) (b : List ℕ) → is_end (said k b) ≡ eqb k 3
+ends_is : (k : ℕ) (b : List ℕ) → is_end (said k b) ≡ eqb k 3
 ends_is k b =
     cond_both (eqb k 1) _ _ (λ s. is_end s ≡ eqb k 3) (λ e. grind (arith, nat_tests))
     (λ _. cond_both (eqb k 2) _ _ (λ s. is_end s ≡ eqb k 3) (λ e. grind (arith, nat_tests))
@@ -67,12 +67,6 @@ headed r k b rest e h = record {
 
 length_headed : (r : Reader) (k : ℕ) (b : List ℕ) → Headed r k b → length b ≡ get_or (left r) 3 0
 length_headed r k b h = ap length h.body_is ∙ length_body (left r) (sound r.kind r.at (left r) h.fault).whole
-
-pub body_fits : (r : Reader) (k : ℕ) (b : List ℕ) → Headed r k b → length_fits k (length b) ≡ true
-body_fits r k b h = (λ i. length_fits (h.kind i) (length_headed r k b h i)) ∙ (sound r.kind r.at (left r) h.fault).fits
-
-pub ends_within : (r : Reader) (k : ℕ) (b : List ℕ) → Headed r k b → (r.at + 4) + length b ≤ length r.bytes.now
-ends_within r k b h = omega (arith, length_headed r k b h, within r.kind r.at r.bytes.now h.fault)
 
 pub shows : (old new : Reader) (k : ℕ) (b : List ℕ) (s : Said) → old.ended ≡ false → Headed old k b → s ≡ said k b → new.at ≡ (old.at + 4) + length b → new.ended ≡ eqb k 3 → Shown old new old.at s
 shows old new k b s unended h says moved ends = record {

@@ -14,10 +14,10 @@ use Rattle.files.proofs.Heads.{Sound, sound, length_body}
 use Rattle.files.proofs.Kept.{Bytes, RowAdded, Kept}
 use Rattle.files.proofs.ReadsBack.{file_decodes}
 
-pub bytes_drop : (n : ℕ) (bs : List ℕ) → Bytes bs → Bytes (drop n bs)
+bytes_drop : (n : ℕ) (bs : List ℕ) → Bytes bs → Bytes (drop n bs)
 bytes_drop n bs h i = omega (arith, get_or-drop n bs i 0, h (n + i))
 
-pub bytes_take : (n : ℕ) (bs : List ℕ) → Bytes bs → Bytes (take n bs)
+bytes_take : (n : ℕ) (bs : List ℕ) → Bytes bs → Bytes (take n bs)
 bytes_take n bs h i =
     ⊎_elim (λ (l : i < n). omega (arith, get_or-take n bs i 0 l, h i))
     (λ (l : n ≤ i). omega (arith, get_or_past (take n bs) i 0 (omega (arith, length-take n bs))))
@@ -29,7 +29,7 @@ passed true x o e = cc
 passed false x o e = (refl, e)
 
 -- a record without a fault is laid out as its kind and its body say
-pub relaid : (f : FileKind) (xs : List ℕ) → Sound f xs → xs ≡ laid (get_or xs 2 0) (body xs) ++ drop (size xs) xs
+relaid : (f : FileKind) (xs : List ℕ) → Sound f xs → xs ≡ laid (get_or xs 2 0) (body xs) ++ drop (size xs) xs
 relaid f [] s = absurd (omega (arith, s.long))
 relaid f (a ∷ []) s = absurd (omega (arith, s.long))
 relaid f (a ∷ b ∷ []) s = absurd (omega (arith, s.long))
@@ -46,7 +46,7 @@ high_back h l s = omega arith
 pub low_back : (h l : ℕ) → l < 256 → l ≡ number h l % 256
 low_back h l s = omega arith
 
-pub end_back : (b : List ℕ) → Bytes b → length b ≡ 2 → b ≡ two_bytes (number (get_or b 0 0) (get_or b 1 0))
+end_back : (b : List ℕ) → Bytes b → length b ≡ 2 → b ≡ two_bytes (number (get_or b 0 0) (get_or b 1 0))
 end_back [] h l = absurd (omega arith)
 end_back (c ∷ []) h l = absurd (omega arith)
 end_back (c ∷ d ∷ []) h l = λ i. high_back c d (h 1) i ∷ low_back c d (h 1) i ∷ []

@@ -20,7 +20,7 @@ use Rattle.tasks.specs.declared.task.Preference.{Preference}
 use Rattle.tasks.specs.declared.task.Preference.TheVariants.{Asap, Alap}
 use Rattle.planning.specs.Orders.{new_plan_row, ranks, KeepsRules}
 use Rattle.planning.specs.Plans.{list_of, open_rows, rows}
-use Rattle.planning.specs.Rows.{prompt_fits, used_in, next_fits, rank_fits, hold_fits, plan_row_fault, RowTaken}
+use Rattle.planning.specs.Rows.{prompt_fits, used_in, next_fits, rank_fits, hold_fits, plan_row_fault}
 use Rattle.planning.specs.declared.fault.RowFault.{RowFault}
 use Rattle.planning.specs.declared.fault.RowFault.TheVariants.{WrongTask, WrongRank, WrongHold}
 use Rattle.planning.specs.declared.plan.OpenPlan.{OpenPlan}
@@ -117,14 +117,6 @@ plan_kept l = record {
 }
 
 -- ---- an open plan
-
--- a record of a plan file that says a row
-pub row_taken : (at k : ℕ) (r : Row) (s : Said) (old new : OpenPlan) (u : Unit {0}) → s ≡ format.plan k r.rank r.hold → RowTaken at k r old new (Ok u) → plan_adds old.list at (open_rows old) s ≡ Ok (open_rows new)
-row_taken at k r s old new u says t =
-    ap (plan_adds old.list at (open_rows old)) says ∙ ap (λ o. unless o r (open_rows old)) t.says ∙ ap (λ rs. Ok rs) (sym t.rows)
-
-pub row_refused : (at k : ℕ) (r : Row) (s : Said) (old new : OpenPlan) (f : RowFault) → s ≡ format.plan k r.rank r.hold → RowTaken at k r old new (Err f) → plan_adds old.list at (open_rows old) s ≡ Err (fault.Row f)
-row_refused at k r s old new f says t = ap (plan_adds old.list at (open_rows old)) says ∙ ap (λ o. unless o r (open_rows old)) t.says
 
 -- the end record, where rows are missing
 pub rows_missing : (l : TaskList) (bs : List ℕ) (p : OpenPlan) (at n : ℕ) → p.list ≡ l → Ends (plan_rules l) bs (open_rows p) at n → length (open_rows p) < length (listed p.list) → decoded_plan l bs ≡ Err (fault.Bytes (WrongCount at))

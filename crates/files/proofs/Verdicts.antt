@@ -69,6 +69,3 @@ of_planning bs l p (Ok t) r e a w m = subst (Plans bs p) (sym m) (of_plan bs l p
 of_planning bs l p (Err f) r e a w m =
     let h = err_from_is_err_and r m in
     subst (Plans bs p) (sym (h.1 ∙ ap Err h.2)) (of_left bs l f e a)
-
-pub of_fault : (bs : List ℕ) (f : FileFault TaskFault) → decoded bs ≡ Err f → OfBytes bs (refused (list_refusal f))
-of_fault bs f e = subst (λ d. MatchResult d (λ rs. (k : TaskList) × (rows (listed k) ≡ rs) × OfList k (refused (list_refusal f))) (λ g. refused (list_refusal f) ≡ refused (list_refusal g))) (sym e) refl

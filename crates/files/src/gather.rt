@@ -38,6 +38,7 @@ pub(crate) trait Gather {
         ensures says { Says ((rules self.old).adds at (rows self.old) (view «record».entry)) (rows self.new) result }
         ensures same { same_but_rows self.old self.new };
 
+    // What is the same stays the same, and follows the same rules.
     ghost same: { (x : Self) → same_but_rows x x };
 
     ghost same_on: { (x y z : Self) → same_but_rows x y → same_but_rows y z → same_but_rows x z };

@@ -16,13 +16,13 @@ pub enum FileKind {
     Plan,
 }
 
-// The kinds of records: a task, a note, the end record, a row of a plan.
+// The kinds of records, with their numbers: a task, a note, the end record, a row of a plan.
 #[derive(Clone, Copy, PartialEq, Eq, Debug)]
 pub(crate) enum Kind {
-    Task,
-    Note,
-    End,
-    Plan,
+    Task = 1,
+    Note = 2,
+    End = 3,
+    Plan = 4,
 }
 
 // A number that no kind of record has.

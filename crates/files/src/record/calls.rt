@@ -26,12 +26,7 @@ impl From<Kind> for u8 {
     ghost from_gives = { λ kind number. number ≡ kind_number kind };
 
     fn from(kind: Kind) -> u8 {
-        match kind {
-            Kind::Task => 1,
-            Kind::Note => 2,
-            Kind::End => 3,
-            Kind::Plan => 4,
-        }
+        kind as u8
     }
 }
 
