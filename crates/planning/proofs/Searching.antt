@@ -25,16 +25,13 @@ pub record Chosen (bound : ℕ → ℕ → Option ℕ) (l : TaskList) (U : ℕ) 
   pub bounded : bound (without U c.task) c.task ≡ Some c.bound
   pub slack_is : c.slack ≡ deadline l (task_at l c.task) - c.bound
 
-none_some : {X : Type 0} {x : X} → ◌≡◌ {A = Option X} None (Some x) → ⊥
-none_some e = cc
-
 better_some : (old new : Option Candidate) (c : Candidate) → better old new ≡ Some c → (old ≡ Some c) ⊎ (new ≡ Some c)
 better_some None new c e = inr e
 better_some (Some old) None c e = inl e
 better_some (Some old) (Some new) c e = ⊎_elim (λ a. inr (sym a)) (λ a. inl (sym a)) (cases_cond (ltb old.slack new.slack) (Some new) (Some old) (Some c) (sym e))
 
 candidate_some : (bound : ℕ → ℕ → Option ℕ) (l : TaskList) (U k : ℕ) (o : Option ℕ) (c : Candidate) → bit U k ≡ 1 → bound (without U k) k ≡ o → candidate l k o ≡ Some c → Chosen bound l U c
-candidate_some bound l U k None c i b e = absurd (none_some e)
+candidate_some bound l U k None c i b e = cc
 candidate_some bound l U k (Some x) c i b e =
     let made : Candidate = record { task = k; bound = x; slack = deadline l (task_at l k) - x } in
     let same : made ≡ c = cc in
@@ -48,7 +45,7 @@ one_more false f c = omega arith
 module _ (bound : ℕ → ℕ → Option ℕ) (l : TaskList) (U : ℕ) where
   pub search_chosen : (p : Preference) (k : ℕ) (c : Candidate) → (search_below bound l p U k).best ≡ Some c → Chosen bound l U c
   unfolding search_below
-  search_chosen p zero c e = absurd (none_some e)
+  search_chosen p zero c e = cc
   search_chosen p (suc k) c e =
       ⊎_elim
       (λ (asked : asks l p U k ≡ true).
