@@ -6,7 +6,7 @@ root=$(cd "$(dirname "$0")/.." && pwd)
 copy=$(mktemp -d)
 trap 'rm -rf "$copy"' EXIT
 
-libraries="tasks analysis planning"
+libraries="fixed tasks analysis planning"
 mkdir -p "$copy/crates/tried/src"
 for name in $libraries; do
     mkdir "$copy/crates/$name"

@@ -2,6 +2,7 @@ pub mod Demand
 pub mod Response
 pub mod WholePeriod
 pub mod Question
+pub mod Put
 pub mod ResponseLaws
 pub mod DemandLaws
 pub mod Least

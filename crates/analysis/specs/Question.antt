@@ -4,6 +4,7 @@
 --   Answered l S i b r   r answers the question: the bound b where it is well put, and otherwise the fault with the task asked about
 --   question_refusal f   number, layer and place of the fault f
 use Rattle.std.specs.Prelude.{◌≡◌, ℕ, ◌<◌, length, Option, Result, MatchResult}
+use Rattle.tasks.specs.Faults.{told}
 use Rattle.tasks.specs.List.{listed}
 use Rattle.tasks.specs.Set.{bit}
 use Rattle.tasks.specs.declared.fault.Layer.TheVariants.{Plan}
@@ -21,4 +22,4 @@ abbrev pub Answered : TaskList → ℕ → ℕ → Option ℕ → Result (Option
 Answered l S i b r = MatchResult r (λ o. Premises l S i × (o ≡ b)) (λ f. (Premises l S i → ⊥) × (f ≡ IllPut i))
 
 abbrev pub question_refusal : QuestionFault → Refusal
-question_refusal (IllPut p) = record { number = 17; layer = Plan; place = p }
+question_refusal (IllPut p) = told Plan 17 p

@@ -1,20 +1,15 @@
-// Whether a question to a test is well put.
+// A question to a test: how soon is a task done below a set of tasks?
 ghost use Rattle.analysis.specs.Question.{Premises};
-ghost use Rattle.std.specs.Prelude.{Decides};
 
 use tasks::list::TaskList;
-use tasks::set::{first_tasks, has};
 
-// Whether the task and all of the set are listed, and the set lacks the task.
-pub fn well_put(list: &TaskList, set: u32, task: usize) -> bool
-    ensures { Decides result (Premises list.now set task) }
-{
-    let count = list.len();
-    if task >= count {
-        return false;
-    }
-    if set > first_tasks(count) {
-        return false;
-    }
-    !has(set, task)
+pub mod calls;
+
+// A question that is well put: the task and all of the set are listed, and the set lacks the task.
+#[derive(Clone, Copy)]
+pub struct Question<'a> {
+    pub(crate) list: &'a TaskList,
+    pub(crate) set: u32,
+    pub(crate) task: usize,
+    ghost well_put: { Premises list.now set task },
 }

@@ -29,10 +29,8 @@ fn any_name(rt: HostRuntime) -> Result<(), Fail> {
         b"\xa7\x5e\x02\x00\xa7\x5e\x01\x07\x01\x00\x02\x00\x09\x00\xff\xa7\x5e\x02\x00\xa7\x5e\x03\x02\x00\x01",
         &mut list,
     )?;
-    let Some(task) = list.task(0) else {
-        return Err(Fail::new("not listed"));
-    };
-    assert!(rt; task.name.bytes() == b"\x00\xff".as_slice());
+    let listed = list.task(0).ok_or(Fail::new("not listed"))?;
+    assert!(rt; listed.name.bytes() == b"\x00\xff".as_slice());
     Ok(())
 }
 
@@ -45,8 +43,8 @@ fn put(file: &mut [u8], at: usize, part: &[u8]) {
 
 // Writes the heads of 31 notes of 255 bytes, one of 153, and the end record: 8,192 bytes in all.
 fn fill(file: &mut [u8]) {
-    for k in 0..31 {
-        put(file, 259 * k, b"\xa7\x5e\x02\xff");
+    for note in file.chunks_exact_mut(259) {
+        put(note, 0, b"\xa7\x5e\x02\xff");
     }
     put(file, 8029, b"\xa7\x5e\x02\x99");
     put(file, 8186, b"\xa7\x5e\x03\x02\x00\x00");
@@ -62,8 +60,8 @@ fn longest_file(rt: HostRuntime) -> Result<(), Fail> {
 
 // Writes 32 task records of ten bytes each, and the end record.
 fn fill_tasks(file: &mut [u8]) {
-    for k in 0..32 {
-        put(file, 10 * k, b"\xa7\x5e\x01\x06\x00\x00\x01\x00\x50a");
+    for record in file.chunks_exact_mut(10) {
+        put(record, 0, b"\xa7\x5e\x01\x06\x00\x00\x01\x00\x50a");
     }
     put(file, 320, b"\xa7\x5e\x03\x02\x00\x20");
 }
@@ -94,11 +92,9 @@ fn noted_file(rt: HostRuntime) -> Result<(), Fail> {
     let mut list = OpenList::new().close();
     read_list(&file, &mut list)?;
     assert_eq!(rt; list.len(), 1);
-    let Some(task) = list.task(0) else {
-        return Err(Fail::new("not listed"));
-    };
+    let listed = list.task(0).ok_or(Fail::new("not listed"))?;
     assert!(rt;
-        task.name.bytes()
+        listed.name.bytes()
             == b"\x00\x01\x02\x03\x04\x05\x06\x07\x80\xa7\x5e\xfb\xfc\xfd\xfe\xff".as_slice()
     );
     Ok(())

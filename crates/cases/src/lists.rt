@@ -1,44 +1,21 @@
 // Adding tasks by hand.
-use std::process::Abort;
+use crate::says::{is_refused, task};
 use std::test::Fail;
-use tasks::fault::{Layer, Refusal, TaskFault};
+use tasks::fault::Layer;
 use tasks::list::OpenList;
 use tasks::task::Preference;
-
-// The refusal has this number, and the place that the task would get.
-fn refuses(
-    rt: &impl Abort,
-    answer: Result<usize, TaskFault>,
-    number: u8,
-    place: u64,
-) -> Result<(), Fail> {
-    match answer {
-        Ok(_) => Err(Fail::new("not refused")),
-        Err(fault) => {
-            assert_eq!(rt;
-                fault.refusal(),
-                Refusal {
-                    number,
-                    layer: Layer::Task,
-                    place,
-                }
-            );
-            Ok(())
-        }
-    }
-}
 
 #[test]
 fn limits(rt: HostRuntime) -> Result<(), Fail> {
     let mut list = OpenList::new();
-    assert_eq!(rt; list.add(b"first", 0, 1, 60_000)?, 0);
-    refuses(&rt, list.add(b"a", 2, 0, 0), 6, 1)?;
-    refuses(&rt, list.add(b"a", 1, 0, 0), 7, 1)?;
-    refuses(&rt, list.add(b"a", 1, 6, 5), 8, 1)?;
-    refuses(&rt, list.add(b"a", 1, 60_001, 60_001), 9, 1)?;
-    refuses(&rt, list.add(b"", 1, 1, 5), 5, 1)?;
-    refuses(&rt, list.add(b"seventeen bytes!!", 1, 1, 5), 5, 1)?;
-    assert_eq!(rt; list.add(b"sixteen bytes ok", 1, 5, 5)?, 1);
+    assert_eq!(rt; list.add(task(b"first", 0, 1, 60_000))?, 0);
+    is_refused(&rt, list.add(task(b"a", 2, 0, 0)), 6, Layer::Task, 1)?;
+    is_refused(&rt, list.add(task(b"a", 1, 0, 0)), 7, Layer::Task, 1)?;
+    is_refused(&rt, list.add(task(b"a", 1, 6, 5)), 8, Layer::Task, 1)?;
+    is_refused(&rt, list.add(task(b"a", 1, 60_001, 60_001)), 9, Layer::Task, 1)?;
+    is_refused(&rt, list.add(task(b"", 1, 1, 5)), 5, Layer::Task, 1)?;
+    is_refused(&rt, list.add(task(b"seventeen bytes!!", 1, 1, 5)), 5, Layer::Task, 1)?;
+    assert_eq!(rt; list.add(task(b"sixteen bytes ok", 1, 5, 5))?, 1);
     assert_eq!(rt; list.close().len(), 2);
     Ok(())
 }
@@ -46,15 +23,13 @@ fn limits(rt: HostRuntime) -> Result<(), Fail> {
 #[test]
 fn reading(rt: HostRuntime) -> Result<(), Fail> {
     let mut open = OpenList::new();
-    assert_eq!(rt; open.add(b"card", 1, 4, 50)?, 0);
+    assert_eq!(rt; open.add(task(b"card", 1, 4, 50))?, 0);
     let list = open.close();
-    let Some(task) = list.task(0) else {
-        return Err(Fail::new("not listed"));
-    };
-    assert!(rt; task.name.bytes() == b"card".as_slice());
-    assert_eq!(rt; task.preference, Preference::Alap);
-    assert_eq!(rt; task.cost, 4);
-    assert_eq!(rt; task.period, 50);
+    let listed = list.task(0).ok_or(Fail::new("not listed"))?;
+    assert!(rt; listed.name.bytes() == b"card".as_slice());
+    assert_eq!(rt; listed.preference, Preference::Alap);
+    assert_eq!(rt; listed.cost, 4);
+    assert_eq!(rt; listed.period, 50);
     assert!(rt; list.task(1).is_none());
     Ok(())
 }
@@ -64,9 +39,9 @@ fn reading(rt: HostRuntime) -> Result<(), Fail> {
 fn full_list(rt: HostRuntime) -> Result<(), Fail> {
     let mut list = OpenList::new();
     for k in 0..32usize {
-        assert_eq!(rt; list.add(b"a", 0, 1, 100)?, k);
+        assert_eq!(rt; list.add(task(b"a", 0, 1, 100))?, k);
     }
-    refuses(&rt, list.add(b"seventeen bytes!!", 1, 1, 5), 10, 32)?;
+    is_refused(&rt, list.add(task(b"seventeen bytes!!", 1, 1, 5)), 10, Layer::Task, 32)?;
     assert_eq!(rt; list.close().len(), 32);
     Ok(())
 }

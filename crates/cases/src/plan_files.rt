@@ -1,12 +1,12 @@
 // Plan files, read and written.
-use files::fault::PlanFileFault;
+use crate::says::{is_refused, task};
 use files::list_file::read_list;
 use files::plan_file::{read_plan, write_plan};
 use planning::plan::Plan;
 use planning::plan::planner::plan_exact;
 use std::process::Abort;
 use std::test::Fail;
-use tasks::fault::{Layer, Refusal};
+use tasks::fault::Layer;
 use tasks::list::{OpenList, TaskList};
 
 const FOUR_TASKS: &[u8] =
@@ -45,28 +45,16 @@ fn refuses(
     place: u64,
 ) -> Result<(), Fail> {
     let mut plan = Plan::empty();
-    match read_plan(bytes, list, &mut plan) {
-        Ok(()) => Err(Fail::new("not refused")),
-        Err(fault) => {
-            assert_eq!(rt;
-                fault.refusal(),
-                Refusal {
-                    number,
-                    layer,
-                    place,
-                }
-            );
-            assert_eq!(rt; plan.list().len(), 0);
-            Ok(())
-        }
-    }
+    is_refused(rt, read_plan(bytes, list, &mut plan), number, layer, place)?;
+    assert_eq!(rt; plan.list().len(), 0);
+    Ok(())
 }
 
 // A list of an ASAP task (1,5) and an ALAP task (1,10).
 fn two_tasks() -> TaskList {
     let mut open = OpenList::new();
-    let _ = open.add(b"read", 0, 1, 5);
-    let _ = open.add(b"card", 1, 1, 10);
+    let _ = open.add(task(b"read", 0, 1, 5));
+    let _ = open.add(task(b"card", 1, 1, 10));
     open.close()
 }
 

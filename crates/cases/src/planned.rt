@@ -1,4 +1,5 @@
 // Lists planned by tests.
+use crate::says::task;
 use crate::tried::NeverTest;
 use analysis::whole_period::WholePeriodTest;
 use planning::fault::{PlanFault, Tally};
@@ -18,13 +19,11 @@ fn has(rt: &impl Abort, plan: &Plan, task: usize, rank: u8, response: u16, hold:
 
 // The tasks of this set are left over, and the tally says so too.
 fn leaves(rt: &impl Abort, answer: Result<Tally, PlanFault>, expected: Tally) -> Result<(), Fail> {
-    match answer {
-        Ok(_) => Err(Fail::new("not refused")),
-        Err(PlanFault::LeftOver(tally)) => {
-            assert_eq!(rt; tally, expected);
-            Ok(())
-        }
-    }
+    let Err(PlanFault::LeftOver(tally)) = answer else {
+        return Err(Fail::new("not refused"));
+    };
+    assert_eq!(rt; tally, expected);
+    Ok(())
 }
 
 #[test]
@@ -57,9 +56,9 @@ fn standing(rt: HostRuntime) -> Result<(), Fail> {
 fn left_over(rt: HostRuntime) -> Result<(), Fail> {
     let mut plan = Plan::empty();
     let mut open = OpenList::new();
-    assert_eq!(rt; open.add(b"a", 0, 2, 5)?, 0);
-    assert_eq!(rt; open.add(b"b", 0, 4, 7)?, 1);
-    assert_eq!(rt; open.add(b"c", 0, 1, 1000)?, 2);
+    assert_eq!(rt; open.add(task(b"a", 0, 2, 5))?, 0);
+    assert_eq!(rt; open.add(task(b"b", 0, 4, 7))?, 1);
+    assert_eq!(rt; open.add(task(b"c", 0, 1, 1000))?, 2);
     leaves(
         &rt,
         plan_exact(&open.close(), &mut plan),
@@ -71,8 +70,8 @@ fn left_over(rt: HostRuntime) -> Result<(), Fail> {
     )?;
     assert_eq!(rt; plan.list().len(), 0);
     let mut full = OpenList::new();
-    assert_eq!(rt; full.add(b"a", 0, 2, 4)?, 0);
-    assert_eq!(rt; full.add(b"b", 0, 3, 6)?, 1);
+    assert_eq!(rt; full.add(task(b"a", 0, 2, 4))?, 0);
+    assert_eq!(rt; full.add(task(b"b", 0, 3, 6))?, 1);
     leaves(
         &rt,
         plan_exact(&full.close(), &mut plan),
@@ -90,8 +89,8 @@ fn left_over(rt: HostRuntime) -> Result<(), Fail> {
 fn other_tests(rt: HostRuntime) -> Result<(), Fail> {
     let mut made = Plan::empty();
     let mut open = OpenList::new();
-    assert_eq!(rt; open.add(b"long", 0, 6, 11)?, 0);
-    assert_eq!(rt; open.add(b"short", 0, 2, 5)?, 1);
+    assert_eq!(rt; open.add(task(b"long", 0, 6, 11))?, 0);
+    assert_eq!(rt; open.add(task(b"short", 0, 2, 5))?, 1);
     let list = open.close();
     assert_eq!(rt;
         plan_exact(&list, &mut made)?,
@@ -129,7 +128,7 @@ fn full_list(rt: HostRuntime) -> Result<(), Fail> {
     let mut made = Plan::empty();
     let mut open = OpenList::new();
     for _ in 0..32 {
-        let _ = open.add(b"a", 0, 1, 32)?;
+        let _ = open.add(task(b"a", 0, 1, 32))?;
     }
     let list = open.close();
     assert_eq!(rt;

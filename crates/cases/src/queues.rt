@@ -1,10 +1,9 @@
 // Queues over lent memory.
+use crate::says::is_refused;
 use queue::entries::{Held, Ready};
-use queue::fault::QueueFault;
 use queue::queue::Queue;
-use std::process::Abort;
 use std::test::Fail;
-use tasks::fault::{Layer, Refusal};
+use tasks::fault::Layer;
 
 fn held(until: u32, task: usize) -> Held {
     Held { until, task }
@@ -12,24 +11,6 @@ fn held(until: u32, task: usize) -> Held {
 
 fn ready(rank: u8, task: usize) -> Ready {
     Ready { rank, task }
-}
-
-// The memory is full: the refusal names its length.
-fn refuses(rt: &impl Abort, answer: Result<(), QueueFault>, room: u64) -> Result<(), Fail> {
-    match answer {
-        Ok(()) => Err(Fail::new("not refused")),
-        Err(fault) => {
-            assert_eq!(rt;
-                fault.refusal(),
-                Refusal {
-                    number: 22,
-                    layer: Layer::Run,
-                    place: room,
-                }
-            );
-            Ok(())
-        }
-    }
 }
 
 // Held jobs come by tick and then by task; an equal element goes behind.
@@ -43,7 +24,7 @@ fn held_jobs(rt: HostRuntime) -> Result<(), Fail> {
     queue.put(held(5, 9))?;
     queue.put(held(7, 1))?;
     queue.put(held(5, 9))?;
-    refuses(&rt, queue.put(held(1, 1)), 4)?;
+    is_refused(&rt, queue.put(held(1, 1)), 22, Layer::Run, 4)?;
     assert_eq!(rt; queue.len(), 4);
     assert_eq!(rt; queue.take_front(), Some(held(5, 9)));
     assert!(rt; queue.take_out(held(7, 2)));
@@ -73,11 +54,11 @@ fn ready_jobs(rt: HostRuntime) -> Result<(), Fail> {
 fn small_memory(rt: HostRuntime) -> Result<(), Fail> {
     let mut none: [Held; 0] = [];
     let mut empty = Queue::new(&mut none);
-    refuses(&rt, empty.put(held(1, 1)), 0)?;
+    is_refused(&rt, empty.put(held(1, 1)), 22, Layer::Run, 0)?;
     let mut one = [held(0, 0); 1];
     let mut single = Queue::new(&mut one);
     single.put(held(3, 3))?;
-    refuses(&rt, single.put(held(2, 2)), 1)?;
+    is_refused(&rt, single.put(held(2, 2)), 22, Layer::Run, 1)?;
     assert_eq!(rt; single.take_front(), Some(held(3, 3)));
     let mut two = [held(8, 0), held(4, 1)];
     let mut unsorted = Queue::holding(&mut two, 9);
@@ -92,12 +73,12 @@ fn small_memory(rt: HostRuntime) -> Result<(), Fail> {
 fn filled_and_drained(rt: HostRuntime) -> Result<(), Fail> {
     let mut places = [held(0, 0); 32];
     let mut queue = Queue::new(&mut places);
-    for k in 0..32u32 {
-        queue.put(held(31 - k, 0))?;
+    for until in (0..32).rev() {
+        queue.put(held(until, 0))?;
     }
-    refuses(&rt, queue.put(held(0, 0)), 32)?;
-    for k in 0..32u32 {
-        assert_eq!(rt; queue.take_front(), Some(held(k, 0)));
+    is_refused(&rt, queue.put(held(0, 0)), 22, Layer::Run, 32)?;
+    for until in 0..32 {
+        assert_eq!(rt; queue.take_front(), Some(held(until, 0)));
     }
     assert_eq!(rt; queue.len(), 0);
     Ok(())

@@ -76,8 +76,8 @@ fn wrong_tasks(rt: HostRuntime) -> Result<(), Fail> {
 #[test]
 fn too_many_tasks(rt: HostRuntime) -> Result<(), Fail> {
     let mut file = [0u8; 330];
-    for k in 0..33 {
-        file[10 * k..10 * k + 10].copy_from_slice(b"\xa7\x5e\x01\x06\x00\x00\x01\x00\x50a");
+    for record in file.chunks_exact_mut(10) {
+        record.copy_from_slice(b"\xa7\x5e\x01\x06\x00\x00\x01\x00\x50a");
     }
     refuses(&rt, &file, b"refused 10 task 320\n")
 }

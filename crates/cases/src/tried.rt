@@ -2,14 +2,14 @@
 ghost use Rattle.std.specs.Prelude.{None};
 ghost use Rattle.std.proofs.Common.{rules};
 
+use crate::says::{is_refused, task};
 use analysis::exact::ExactTest;
 use analysis::fault::QuestionFault;
-use analysis::question::well_put;
+use analysis::question::Question;
 use analysis::test::Test;
 use analysis::whole_period::WholePeriodTest;
-use std::process::Abort;
 use std::test::Fail;
-use tasks::fault::{Layer, Refusal};
+use tasks::fault::Layer;
 use tasks::list::{OpenList, TaskList};
 
 // A lawful test, though a useless one.
@@ -24,33 +24,8 @@ impl Test for NeverTest {
     ghost sound = { Prim.search rules };
 
     fn ask(&self, list: &TaskList, set: u32, task: usize) -> Result<Option<u16>, QuestionFault> {
-        if well_put(list, set, task) {
-            Ok(None)
-        } else {
-            Err(QuestionFault::IllPut(task as u64))
-        }
-    }
-}
-
-// The refusal of a question about this task.
-fn refuses(
-    rt: &impl Abort,
-    answer: Result<Option<u16>, QuestionFault>,
-    task: u64,
-) -> Result<(), Fail> {
-    match answer {
-        Ok(_) => Err(Fail::new("not refused")),
-        Err(fault) => {
-            assert_eq!(rt;
-                fault.refusal(),
-                Refusal {
-                    number: 17,
-                    layer: Layer::Plan,
-                    place: task,
-                }
-            );
-            Ok(())
-        }
+        Question::new(list, set, task)?;
+        Ok(None)
     }
 }
 
@@ -58,14 +33,14 @@ fn refuses(
 #[test]
 fn two_tests(rt: HostRuntime) -> Result<(), Fail> {
     let mut open = OpenList::new();
-    assert_eq!(rt; open.add(b"below", 0, 1, 5)?, 0);
-    assert_eq!(rt; open.add(b"above", 0, 3, 4)?, 1);
+    assert_eq!(rt; open.add(task(b"below", 0, 1, 5))?, 0);
+    assert_eq!(rt; open.add(task(b"above", 0, 3, 4))?, 1);
     let list = open.close();
     assert_eq!(rt; ExactTest.ask(&list, 2, 0)?, Some(4));
     assert_eq!(rt; WholePeriodTest.ask(&list, 2, 0)?, None);
     assert_eq!(rt; WholePeriodTest.ask(&list, 0, 1)?, Some(3));
     assert_eq!(rt; NeverTest.ask(&list, 0, 1)?, None);
-    refuses(&rt, ExactTest.ask(&list, 0, 2), 2)?;
-    refuses(&rt, ExactTest.ask(&list, 1, 0), 0)?;
-    refuses(&rt, WholePeriodTest.ask(&list, 4, 1), 1)
+    is_refused(&rt, ExactTest.ask(&list, 0, 2), 17, Layer::Plan, 2)?;
+    is_refused(&rt, ExactTest.ask(&list, 1, 0), 17, Layer::Plan, 0)?;
+    is_refused(&rt, WholePeriodTest.ask(&list, 4, 1), 17, Layer::Plan, 1)
 }

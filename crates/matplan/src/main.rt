@@ -2,9 +2,8 @@
 
 #![tactic(auto)]
 
-ghost use Rattle.std.specs.Prelude.{◌≤◌, length, IfOk};
-
 use anyhow::anyhow;
+use arrayvec::ArrayVec;
 use files::program::Outcome;
 use files::program::calls::plan_file;
 use std::io;
@@ -17,35 +16,15 @@ const INPUT_ROOM: usize = 8_193;
 // More than the longest report.
 const OUTPUT_ROOM: usize = 4_096;
 
-// Reads until the buffer is full or the input ends, and answers how many bytes came.
-fn read_input(rt: &HostRuntime, buffer: &mut [u8]) -> io::Result<usize>
-    ensures { IfOk result (λ n. n ≤ length buffer.old) }
-{
-    let mut input = rt.stdin();
-    let mut len = 0;
-    for _ in 0..buffer.len() {
-        let more = input.read(&mut buffer[len..])?;
-        if more == 0 {
-            break;
-        }
-        len += more;
-    }
-    Ok(len)
-}
-
 fn main(rt: HostRuntime) -> anyhow::Result<ExitCode> {
-    let mut input = [0u8; INPUT_ROOM];
+    let mut input: ArrayVec<u8, INPUT_ROOM> = ArrayVec::new();
+    io::copy(&mut rt.stdin().take(INPUT_ROOM as u64), &mut input)?;
     let mut output = [0u8; OUTPUT_ROOM];
-    let len = read_input(&rt, &mut input)?;
-    match plan_file(&input[0..len], &mut output) {
-        Ok(Outcome::Planned(printed)) => {
-            rt.stdout().write_all(&output[0..printed])?;
-            Ok(ExitCode::SUCCESS)
-        }
-        Ok(Outcome::Refused(printed)) => {
-            rt.stdout().write_all(&output[0..printed])?;
-            Ok(ExitCode::FAILURE)
-        }
-        Err(_) => Err(anyhow!("no room for the output")),
-    }
+    let (printed, status) = match plan_file(input.as_slice(), &mut output) {
+        Ok(Outcome::Planned(printed)) => (printed, ExitCode::SUCCESS),
+        Ok(Outcome::Refused(printed)) => (printed, ExitCode::FAILURE),
+        Err(_) => return Err(anyhow!("no room for the output")),
+    };
+    rt.stdout().write_all(&output[..printed])?;
+    Ok(status)
 }

@@ -1,11 +1,12 @@
 -- What judging a task needs: it is in time exactly if the response that is found fits after the hold; and a plan fits exactly if all
 -- its tasks are in time. Assumes nothing.
-use Rattle.std.proofs.Common.{◌≡◌, ℕ, zero, suc, ◌+◌, ◌<◌, Bool, true, false, cond, ltb, leb, List, [], ◌∷◌, length, get_or, Some, None, Decides, Option, MatchOption, MatchBool, sym, refl, ap, ◌∙◌, subst, ⊎_elim, arith}
+use Rattle.std.proofs.Common.{◌≡◌, ℕ, zero, suc, ◌+◌, ◌<◌, ◌≤◌, Bool, true, false, cond, ltb, leb, List, [], ◌∷◌, length, get_or, Some, None, Decides, Option, MatchOption, MatchBool, sym, refl, ap, ◌∙◌, subst, inl, inr, ⊎_elim, arith}
 use Rattle.std.proofs.lemmas.Bool.{cases_Bool, lt-ltb, ltb-true, cond-true, cond-false, leb-true, le-leb, true≢false}
+use Rattle.std.proofs.lemmas.Option.{slice_get_within, get_or_from_slice_get, slice_get_cases}
 use Rattle.std.proofs.lemmas.List.FromFn.{length-range_with_len, get_or-range_with_len}
 use Rattle.std.specs.Option.{option_zip}
-use Rattle.std.specs.List.{range_with_len, AllWithin, HoldsAt}
-use Rattle.tasks.specs.List.{task_if, task_at}
+use Rattle.std.specs.List.{slice_get, range_with_len, AllWithin, HoldsAt}
+use Rattle.tasks.specs.List.{task_at}
 use Rattle.tasks.specs.declared.task.Task.{Task}
 use Rattle.analysis.specs.Demand.{deadline}
 use Rattle.analysis.specs.Response.{response}
@@ -27,15 +28,15 @@ looked_up k n v w e =
     (cases_Bool (ltb k n))
 
 -- a task that is found by its number is listed, and it is that task
-pub is_listed : (ts : List Task) (k : ℕ) (t d : Task) → Some t ≡ task_if ts k → (k < length ts) × (t ≡ get_or ts k d)
-is_listed [] k t d e = cc
-is_listed (x ∷ ts) zero t d e = (omega arith, cc)
-is_listed (x ∷ ts) (suc k) t d e = let rest = is_listed ts k t d e in (omega (arith, rest.0), rest.1)
+pub is_listed : (ts : List Task) (k : ℕ) (t d : Task) → Some t ≡ slice_get ts k → (k < length ts) × (t ≡ get_or ts k d)
+is_listed ts k t d e = (slice_get_within ts k t (sym e), sym (get_or_from_slice_get ts k t d (sym e)))
 
-pub not_listed : (ts : List Task) (k : ℕ) → None ≡ task_if ts k → k < length ts → ⊥
-not_listed [] k e h = omega arith
-not_listed (x ∷ ts) zero e h = cc
-not_listed (x ∷ ts) (suc k) e h = not_listed ts k e (omega arith)
+pub not_listed : (ts : List Task) (k : ℕ) → None ≡ slice_get ts k → length ts ≤ k
+not_listed ts k e =
+    elim (slice_get_cases ts k).1 [
+      | inl here ↦ (let clash : None ≡ Some here.0 = e ∙ here.2 in cc)
+      | inr past ↦ past.0
+    ]
 
 pub match_weaker : {T : Type 0} (P : Type 0) (Q R : T → Type 0) (o : Option T) → ((x : T) → Q x → R x) → MatchOption o P Q → MatchOption o P R
 match_weaker P Q R None f m = m

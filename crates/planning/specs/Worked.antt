@@ -21,9 +21,9 @@ use Rattle.planning.specs.Rounds.{planned}
 abbrev padded : List ℕ → List ℕ
 padded n = n ++ replicate (16 - length n) 0
 
-abbrev pub task_of : (n : List ℕ) (p : Preference) (c q : ℕ) → T (nat_le 1 (length n)) → T (nat_le (length n) 16) → T (length (padded n) == 16) → T (nat_le 1 c) → T (nat_le c q) → T (nat_le q 60000) → Task
+abbrev pub task_of : (n : List ℕ) (p : Preference) (c q : ℕ) → T (nat_le 1 (length (take (length n) (padded n)))) → T (nat_le (length n) 16) → T (length (padded n) == 16) → T (nat_le 1 c) → T (nat_le c q) → T (nat_le q 60000) → Task
 task_of n p c q n1 n2 n3 a b d = record {
-  name = record { bytes = padded n; len = length n; size = (leb→le 1 (length n) n1, leb→le (length n) 16 n2, eqb→eq (length (padded n)) 16 n3) };
+  name = record { bytes = record { places = padded n; len = length n; room = (leb→le (length n) 16 n2, eqb→eq (length (padded n)) 16 n3) }; some = leb→le 1 (length (take (length n) (padded n))) n1 };
   preference = p;
   cost = c;
   period = q;
@@ -34,7 +34,7 @@ abbrev filled : List Task → List Task
 filled ts = ts ++ replicate (32 - length ts) filler
 
 abbrev pub list_with : (ts : List Task) → T (nat_le (length ts) 32) → T (length (filled ts) == 32) → TaskList
-list_with ts a b = record { tasks = filled ts; count = length ts; room = (leb→le (length ts) 32 a, eqb→eq (length (filled ts)) 32 b) }
+list_with ts a b = record { tasks = record { places = filled ts; len = length ts; room = (leb→le (length ts) 32 a, eqb→eq (length (filled ts)) 32 b) } }
 
 abbrev pub standing_list : TaskList
 standing_list =

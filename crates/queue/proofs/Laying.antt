@@ -1,24 +1,24 @@
 -- The memory after an element went in or out: the elements that are held now in front, and every place past them as it was.
 -- Assumes nothing.
-use Rattle.std.proofs.Common.{◌≡◌, ℕ, ◌+◌, ◌-◌, ◌<◌, ◌≤◌, List, ◌∷◌, ◌++◌, length, take, drop, sym, ap, ◌∙◌, arith}
-use Rattle.std.proofs.lemmas.List.{take-take, take-append-drop, length-take-le, length-drop, length-append}
+use Rattle.std.proofs.Common.{◌≡◌, ℕ, ◌+◌, ◌<◌, ◌≤◌, List, length, take, drop, set, insert, remove, refl, ◌∙◌, arith, rules}
+use Rattle.std.specs.List.{copy_within}
+use Rattle.std.proofs.lemmas.List.{places, same_lists, get_or-set_same, take_at}
+use Rattle.std.proofs.lemmas.Bool.{cases_eq}
 use Rattle.queue.specs.Sequences.{laid}
 
-module _ {T : Type 0} (xs : List T) (count : ℕ) (room : count ≤ length xs) where
-  long : length (take count xs) ≡ count
-  long = length-take-le count xs room
+module _ {T : Type 0} (xs : List T) (count at : ℕ) where
+  -- what stood from `at` on moved up by one place, and the new element went there
+  pub opened : (new : T) → count < length xs → at ≤ count → set (copy_within xs at count (at + 1)) at new ≡ laid (insert (take count xs) at new) xs
+  opened new room h = same_lists _ _ (search (rules, places)) (λ j d b. grind (arith, places, get_or-set_same, cases_eq j at))
 
-  pub laid_put : (r : ℕ) (new : T) (ins ys : List T) → r ≤ count → ins ≡ take r (take count xs) ++ new ∷ drop r (take count xs) → ys ≡ take r xs ++ (new ∷ drop r (take count xs)) ++ drop (count + 1) xs → ys ≡ laid ins xs
-  laid_put r new ins ys h e f =
-      let n : count + 1 ≡ length ins =
-      omega (arith, long, ap length e, length-append (take r (take count xs)) (new ∷ drop r (take count xs)), length-take-le r (take count xs) (omega (arith, long)), length-drop r (take count xs)) in
-      f ∙ ap (λ p. p ++ (new ∷ drop r (take count xs)) ++ drop (count + 1) xs) (sym (take-take r count xs h)) ∙ (λ i. sym e i ++ drop (n i) xs)
+  -- what stood behind `at` moved down by one place
+  pub closed : count ≤ length xs → at < count → copy_within xs (at + 1) count at ≡ laid (remove (take count xs) at) xs
+  closed room h = same_lists _ _ (search (rules, places)) (λ j d b. grind (arith, places))
 
-  pub laid_close : (from : ℕ) (rest ys : List T) → from < count → rest ≡ take from (take count xs) ++ drop (from + 1) (take count xs) → ys ≡ take from xs ++ drop (from + 1) (take count xs) ++ drop (count - 1) xs → ys ≡ laid rest xs
-  laid_close from rest ys h e f =
-      let n : count - 1 ≡ length rest =
-      omega (arith, long, ap length e, length-append (take from (take count xs)) (drop (from + 1) (take count xs)), length-take-le from (take count xs) (omega (arith, long)), length-drop (from + 1) (take count xs)) in
-      f ∙ ap (λ p. p ++ drop (from + 1) (take count xs) ++ drop (count - 1) xs) (sym (take-take from count xs (omega arith))) ∙ (λ i. sym e i ++ drop (n i) xs)
+  -- nothing is held there
+  pub unchanged : count ≤ length xs → count ≤ at → xs ≡ laid (remove (take count xs) at) xs
+  unchanged room h = same_lists _ _ (search (rules, places)) (λ j d b. grind (arith, places))
 
-  pub laid_same : (es : List T) → es ≡ take count xs → xs ≡ laid es xs
-  laid_same es e = sym (take-append-drop count xs) ∙ (λ i. sym e i ++ drop (sym (ap length e ∙ long) i) xs)
+-- the elements, again by their number
+pub laid_front : {T : Type 0} (es xs ys : List T) (n : ℕ) → ys ≡ laid es xs → n ≡ length es → take n ys ≡ es
+laid_front es xs ys n e k = (λ i. take (k i) (e i)) ∙ take_at es (drop (length es) xs) (length es) refl

@@ -1,5 +1,3 @@
-pub mod Inserting
-pub mod Removing
+pub mod Searching
 pub mod Laying
-pub mod Holding
 pub mod Ordering

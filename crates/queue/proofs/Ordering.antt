@@ -1,125 +1,36 @@
--- A sorted queue stays sorted, and its elements are just the old ones with one more or one fewer. Assumes nothing.
-use Rattle.std.proofs.Common.{◌≡◌, Bool, true, false, List, [], ◌∷◌, length, take, drop, sym, refl, ◌∙◌, subst, ⊎_elim, arith}
-use Rattle.std.specs.List.Sorted.{IsPermutation}
-use Rattle.std.proofs.lemmas.List.{take_at}
-use Rattle.std.proofs.lemmas.List.Sorted.{IsPermutation-refl, IsPermutation-cons, IsPermutation-swap, IsPermutation-trans}
-use Rattle.std.proofs.lemmas.Bool.{cases_Bool, cond-true, cond-false, and_parts, false≢true}
-use Rattle.queue.specs.Queues.{memory, held, Takes, Stays}
-use Rattle.queue.specs.Sequences.{insertion, is_same, drop_one, holds, Ascending}
-use Rattle.queue.specs.declared.queue.Queue.{Queue}
+-- A sorted sequence stays sorted when an element goes in at its place or out, and its elements are just the old ones with one more
+-- or one fewer. Assumes nothing.
+use Rattle.std.proofs.Common.{◌≡◌, ℕ, ◌+◌, ◌-◌, ◌<◌, ◌≤◌, Bool, true, false, List, ◌∷◌, length, get_or, insert, remove, IsPermutation, IsSorted, IsSortedBy, Ordering, Equal, is_lt, is_gt, is_eq, sym, arith}
+use Rattle.std.specs.Cmp.{IsTotalOrder}
+use Rattle.std.specs.List.{position_or_len}
+use Rattle.std.proofs.lemmas.Bool.Decides.{nat_tests}
+use Rattle.std.proofs.lemmas.List.{places}
+use Rattle.std.proofs.lemmas.List.Sorted.{IsPermutation-remove, ranks_by, sorted_far}
+use Rattle.std.proofs.lemmas.List.Sums.{fails_before_first, passes_at_first}
+use Rattle.queue.specs.Sequences.{insertion, drop_one, holds}
+use Rattle.queue.proofs.Searching.{first_within, found_within}
 
--- what the queue holds afterwards
-pub held_after : {T : Type 0} (es : List T) (old new : Queue T) → Takes es old new → held new ≡ es
-held_after es old new t = (λ i. take (t.count i) (t.memory_after i)) ∙ take_at es (drop (length es) (memory old)) (length es) refl
+module _ {T : Type 0} (lt : T → T → Bool) (x : T) (es : List T) (i : ℕ) (h : i ≤ length es) where
+  -- x is not below what stands before i, and what stands at i is not below x
+  inserted_sorted : ((k : ℕ) (d : T) → k < i → lt x (get_or es k d) ≡ false) → ((d : T) → i < length es → lt (get_or es i d) x ≡ false) → IsSortedBy lt es → IsSortedBy lt (insert es i x)
+  inserted_sorted before behind up k d low l = grind (arith, places, before k d, behind d, up k d, up (k - 1) d)
 
-module _ {T : Type 0} (le : T → T → Bool) where
-  tail_ascends : (e : T) (es : List T) → Ascending le (e ∷ es) → Ascending le es
-  tail_ascends e [] up = tt
-  tail_ascends e (f ∷ es) up = up.1
+module _ {T : Type 0} {cmp : T → T → Ordering} (o : IsTotalOrder cmp) where
+  pub insertion_sorted : (x : T) (es : List T) → IsSorted cmp es → IsSorted cmp (insertion cmp x es)
+  insertion_sorted x es =
+      let greater = λ (e : T). is_gt (cmp e x) in
+      inserted_sorted (λ x y. is_lt (cmp x y)) x es (position_or_len greater es) (first_within greater es)
+      (λ k d h. grind (arith, o.antisymm x (get_or es k d), fails_before_first greater es k d h))
+      (λ d h. grind (arith, passes_at_first greater es d h))
 
-  -- ---- one more
+  pub removal_sorted : (es : List T) (i : ℕ) → IsSorted cmp es → IsSorted cmp (remove es i)
+  removal_sorted es i up k d low l = grind (arith, places, up k d, up (k + 1) d, sorted_far (λ x y. is_lt (cmp x y)) (ranks_by o (λ (x : T). x)) es up k (k + 2) d)
 
-  swapped : (x e : T) (es : List T) → IsPermutation (x ∷ e ∷ es) (e ∷ x ∷ es)
-  swapped x e es = IsPermutation-swap (x ∷ e ∷ es) (e ∷ x ∷ es) 0 1 (omega arith) (omega arith) refl
-
-  pub insertion_shuffles : (x : T) (es : List T) → IsPermutation (x ∷ es) (insertion le x es)
-  insertion_shuffles x [] = IsPermutation-refl (x ∷ [])
-  insertion_shuffles x (e ∷ es) =
-      ⊎_elim
-      (λ (t : le e x ≡ true).
-      subst (IsPermutation (x ∷ e ∷ es)) (sym (cond-true (le e x) (e ∷ insertion le x es) (x ∷ e ∷ es) t))
-      (IsPermutation-trans (x ∷ e ∷ es) (e ∷ x ∷ es) (e ∷ insertion le x es) (swapped x e es) (IsPermutation-cons e (x ∷ es) (insertion le x es) (insertion_shuffles x es))))
-      (λ (f : le e x ≡ false).
-      subst (IsPermutation (x ∷ e ∷ es)) (sym (cond-false (le e x) (e ∷ insertion le x es) (x ∷ e ∷ es) f)) (IsPermutation-refl (x ∷ e ∷ es)))
-      (cases_Bool (le e x))
-
-  module _ (any : (x y : T) → le x y ≡ false → le y x ≡ true) where
-    -- put behind an element that is at most x, and the rest in order
-    behind : (e x : T) (es : List T) → le e x ≡ true → Ascending le (e ∷ es) → Ascending le (insertion le x es) → Ascending le (e ∷ insertion le x es)
-    behind e x [] t up in_order = (t, tt)
-    behind e x (f ∷ es) t up in_order =
-        ⊎_elim
-        (λ (u : le f x ≡ true).
-        let is = cond-true (le f x) (f ∷ insertion le x es) (x ∷ f ∷ es) u in
-        subst (λ r. Ascending le (e ∷ r)) (sym is) (up.0, subst (Ascending le) is in_order))
-        (λ (v : le f x ≡ false).
-        let is = cond-false (le f x) (f ∷ insertion le x es) (x ∷ f ∷ es) v in
-        subst (λ r. Ascending le (e ∷ r)) (sym is) (t, subst (Ascending le) is in_order))
-        (cases_Bool (le f x))
-
-    pub insertion_ascends : (x : T) (es : List T) → Ascending le es → Ascending le (insertion le x es)
-    insertion_ascends x [] up = tt
-    insertion_ascends x (e ∷ es) up =
-        ⊎_elim
-        (λ (t : le e x ≡ true).
-        subst (Ascending le) (sym (cond-true (le e x) (e ∷ insertion le x es) (x ∷ e ∷ es) t)) (behind e x es t up (insertion_ascends x es (tail_ascends e es up))))
-        (λ (f : le e x ≡ false).
-        subst (Ascending le) (sym (cond-false (le e x) (e ∷ insertion le x es) (x ∷ e ∷ es) f)) (any e x f, up))
-        (cases_Bool (le e x))
-
-  -- ---- one fewer
-
-  pub rest_ascends : (es : List T) → Ascending le es → Ascending le (drop 1 es)
-  rest_ascends [] up = tt
-  rest_ascends (e ∷ []) up = tt
-  rest_ascends (e ∷ f ∷ es) up = up.1
-
-  module _ (same : (x y : T) → le x y ≡ true → le y x ≡ true → x ≡ y) where
-    pub removal_shuffles : (x : T) (es : List T) → holds le x es ≡ true → IsPermutation es (x ∷ drop_one le x es)
-    removal_shuffles x [] h = absurd (false≢true h)
-    removal_shuffles x (e ∷ es) h =
-        ⊎_elim
-        (λ (t : is_same le e x ≡ true).
-        let parts = and_parts (le e x) (le x e) t in
-        let equal : e ≡ x = same e x parts.0 parts.1 in
-        subst (λ r. IsPermutation (e ∷ es) (x ∷ r)) (sym (cond-true (is_same le e x) es (e ∷ drop_one le x es) t))
-        (subst (λ y. IsPermutation (e ∷ es) (y ∷ es)) equal (IsPermutation-refl (e ∷ es))))
-        (λ (f : is_same le e x ≡ false).
-        let later : holds le x es ≡ true = sym (cond-false (is_same le e x) true (holds le x es) f) ∙ h in
-        subst (λ r. IsPermutation (e ∷ es) (x ∷ r)) (sym (cond-false (is_same le e x) es (e ∷ drop_one le x es) f))
-        (IsPermutation-trans (e ∷ es) (e ∷ x ∷ drop_one le x es) (x ∷ e ∷ drop_one le x es) (IsPermutation-cons e es (x ∷ drop_one le x es) (removal_shuffles x es later)) (swapped e x (drop_one le x es))))
-        (cases_Bool (is_same le e x))
-
-  module _ (over : (x y z : T) → le x y ≡ true → le y z ≡ true → le x z ≡ true) where
-    skip : (e f : T) (es : List T) → Ascending le (e ∷ f ∷ es) → Ascending le (e ∷ es)
-    skip e f [] up = tt
-    skip e f (h ∷ es) up = (over e f h up.0 up.1.0, up.1.1)
-
-    -- the element that goes leaves its neighbours in order
-    bridged : (e x : T) (es : List T) → Ascending le (e ∷ es) → Ascending le (drop_one le x es) → Ascending le (e ∷ drop_one le x es)
-    bridged e x [] up in_order = tt
-    bridged e x (f ∷ es) up in_order =
-        ⊎_elim
-        (λ (t : is_same le f x ≡ true).
-        subst (λ r. Ascending le (e ∷ r)) (sym (cond-true (is_same le f x) es (f ∷ drop_one le x es) t)) (skip e f es up))
-        (λ (v : is_same le f x ≡ false).
-        let is = cond-false (is_same le f x) es (f ∷ drop_one le x es) v in
-        subst (λ r. Ascending le (e ∷ r)) (sym is) (up.0, subst (Ascending le) is in_order))
-        (cases_Bool (is_same le f x))
-
-    pub removal_ascends : (x : T) (es : List T) → Ascending le es → Ascending le (drop_one le x es)
-    removal_ascends x [] up = tt
-    removal_ascends x (e ∷ es) up =
-        ⊎_elim
-        (λ (t : is_same le e x ≡ true). subst (Ascending le) (sym (cond-true (is_same le e x) es (e ∷ drop_one le x es) t)) (tail_ascends e es up))
-        (λ (f : is_same le e x ≡ false).
-        subst (Ascending le) (sym (cond-false (is_same le e x) es (e ∷ drop_one le x es) f)) (bridged e x es up (removal_ascends x es (tail_ascends e es up))))
-        (cases_Bool (is_same le e x))
-
--- ---- on the queue
-
-module _ {T : Type 0} (le : T → T → Bool) (old new : Queue T) where
-  abbrev pub Stays-sorted : Type 0
-  Stays-sorted = Ascending le (held old) → Ascending le (held new)
-
-  pub sorted_from : (es : List T) → Takes es old new → (Ascending le (held old) → Ascending le es) → Stays-sorted
-  sorted_from es t keeps up = subst (Ascending le) (sym (held_after es old new t)) (keeps up)
-
-  pub shuffled_from : (es fs : List T) → Takes es old new → IsPermutation fs es → IsPermutation fs (held new)
-  shuffled_from es fs t sh = subst (IsPermutation fs) (sym (held_after es old new t)) sh
-
-  pub shuffled_behind : (x : T) (es fs : List T) → Takes es old new → IsPermutation fs (x ∷ es) → IsPermutation fs (x ∷ held new)
-  shuffled_behind x es fs t sh = subst (λ r. IsPermutation fs (x ∷ r)) (sym (held_after es old new t)) sh
-
-  pub sorted_same : Stays old new → Stays-sorted
-  sorted_same s up = subst (Ascending le) (λ i. take (sym s.count i) (sym s.memory_same i)) up
+module _ {T : Type 0} {cmp : T → T → Ordering} (same : (x y : T) → cmp x y ≡ Equal → x ≡ y) where
+  pub removal_shuffles : (x : T) (es : List T) → holds cmp x es ≡ true → IsPermutation es (x ∷ drop_one cmp x es)
+  removal_shuffles x es h =
+      let equal = λ (e : T). is_eq (cmp e x) in
+      let at = position_or_len equal es in
+      let within : at < length es = grind (arith, found_within equal es, nat_tests) in
+      let tied : cmp (get_or es at x) x ≡ Equal = grind (arith, passes_at_first equal es x within) in
+      IsPermutation-remove es at x within (sym (same (get_or es at x) x tied))

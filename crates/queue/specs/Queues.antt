@@ -1,11 +1,12 @@
 -- Queues, by the elements that they hold and the memory that they lie in.
 --
---   memory q               every place of the lent memory
---   held q                 the elements of the queue q, first to last
---   Made q xs n            the queue q lies over the memory xs and holds its first n elements
---   Puts le x old new a    putting x in answers a and turns the queue `old` into `new`
---   Takes es old new       the queue `old` becomes `new`, which holds es; every place past them is as it was
-use Rattle.std.specs.Prelude.{◌≡◌, ℕ, ◌<◌, ◌≤◌, min, Bool, List, length, take, Result, MatchResult}
+--   memory q                every place of the lent memory
+--   held q                  the elements of the queue q, first to last
+--   Made q xs n             the queue q lies over the memory xs and holds its first n elements
+--   Puts cmp x old new a    putting x in answers a and turns the queue `old` into `new`
+--   Takes es old new        the queue `old` becomes `new`, which holds es; every place past them is as it was
+use Rattle.std.specs.Prelude.{◌≡◌, ℕ, ◌<◌, ◌≤◌, min, List, length, take, Result, MatchResult}
+use Rattle.std.specs.declared.cmp.Ordering.{Ordering}
 use Rattle.queue.specs.Sequences.{insertion, laid}
 use Rattle.queue.specs.declared.fault.QueueFault.{QueueFault}
 use Rattle.queue.specs.declared.fault.QueueFault.TheVariants.{Full}
@@ -31,8 +32,8 @@ pub record Stays {T : Type 0} (old new : Queue T) : Type 0 where
   pub count : new.count ≡ old.count
   pub lender : new.places.ghost_name ≡ old.places.ghost_name
 
-abbrev pub Puts : {T : Type 0} → (T → T → Bool) → T → Queue T → Queue T → Result (Unit {0}) QueueFault → Type 0
-Puts le x old new answer =
+abbrev pub Puts : {T : Type 0} → (T → T → Ordering) → T → Queue T → Queue T → Result (Unit {0}) QueueFault → Type 0
+Puts cmp x old new answer =
     MatchResult answer
-    (λ _. (length (held old) < length (memory old)) × Takes (insertion le x (held old)) old new)
+    (λ _. (length (held old) < length (memory old)) × Takes (insertion cmp x (held old)) old new)
     (λ f. (f ≡ Full (length (memory old))) × (length (memory old) ≤ length (held old)) × Stays old new)

@@ -2,7 +2,7 @@
 pub mod calls;
 
 // A job that is held back: by the tick until which it is held, and then by its task.
-#[derive(Clone, Copy, PartialEq, Eq, Debug)]
+#[derive(Clone, Copy, PartialEq, Eq, PartialOrd, Ord, Debug)]
 pub struct Held {
     pub until: u32,
     pub task: usize,

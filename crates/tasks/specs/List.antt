@@ -1,15 +1,15 @@
 -- Task lists, and what a row must keep to be added.
 --
 --   listed l, opened l      the tasks of a closed list, of an open list, in the order of their numbers
---   task_if ts k            task k of the tasks ts, if there is one
 --   task_at l k             task k of the closed list l; past its end some task that keeps the limits
 --   Row, row t, rows ts     what there is to know of a task: name, preference as a number, cost, period
---   new_row n p c q         the row that is handed in
+--   new_row n p c q, row_said r     the row with these, the row that is handed in as r
 --   limit_fault at p c q    what is wrong with the numbers of a row, if anything is; the fault names the place `at`
 --   add_fault k at r        what is wrong with adding the row r to a list of k tasks, if anything is
 --   Adds at r old new a     adding the row r, refused at the place `at`, turns `old` into `new` and answers a
-use Rattle.std.specs.Prelude.{◌≡◌, ℕ, zero, suc, false, cond, List, [], ◌∷◌, ◌++◌, map, length, take, replicate, is_ok, Some, None, Option, Result, MatchResult, ◌==◌, nat_le, nat_lt, slice_index_or, refl}
+use Rattle.std.specs.Prelude.{◌≡◌, ℕ, false, cond, List, [], ◌∷◌, ◌++◌, map, length, replicate, is_ok, Some, None, Option, Result, MatchResult, ◌==◌, nat_le, nat_lt, slice_index_or, refl}
 use Rattle.std.proofs.Common.{lit≤}
+use Rattle.fixed.specs.FixedVec.{elements}
 use Rattle.tasks.specs.Task.{name_fits, name_of, preference_number}
 use Rattle.tasks.specs.declared.fault.TaskFault.{TaskFault}
 use Rattle.tasks.specs.declared.fault.TaskFault.TheVariants.{NameLength, UnknownPreference, ZeroCost, CostAbovePeriod, PeriodTooLong, TooManyTasks}
@@ -17,22 +17,18 @@ use Rattle.tasks.specs.declared.list.OpenList.{OpenList}
 use Rattle.tasks.specs.declared.list.TaskList.{TaskList}
 use Rattle.tasks.specs.declared.task.Preference.TheVariants.{Asap}
 use Rattle.tasks.specs.declared.task.Task.{Task}
+use Rattle.tasks.specs.declared.task.TaskRow.{TaskRow}
 
 abbrev pub listed : TaskList → List Task
-listed l = take l.count l.tasks
+listed l = elements l.tasks
 
 abbrev pub opened : OpenList → List Task
-opened l = take l.count l.tasks
-
-abbrev pub task_if : List Task → ℕ → Option Task
-task_if [] k = None
-task_if (t ∷ ts) zero = Some t
-task_if (t ∷ ts) (suc k) = task_if ts k
+opened l = listed l.list
 
 -- a task that keeps the limits, for places past a list's end
 pub filler : Task
 filler = record {
-  name = record { bytes = replicate 16 0; len = 1; size = (lit≤ tt, lit≤ tt, refl) };
+  name = record { bytes = record { places = replicate 16 0; len = 1; room = (lit≤ tt, refl) }; some = lit≤ tt };
   preference = Asap;
   cost = 1;
   period = 1;
@@ -50,6 +46,9 @@ pub record Row : Type 0 where
 
 abbrev pub new_row : List ℕ → ℕ → ℕ → ℕ → Row
 new_row n p c q = record { name = n; preference = p; cost = c; period = q }
+
+abbrev pub row_said : TaskRow → Row
+row_said r = new_row r.name.now r.preference r.cost r.period
 
 abbrev pub row : Task → Row
 row t = new_row (name_of t.name) (preference_number t.preference) t.cost t.period

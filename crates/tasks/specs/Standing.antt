@@ -1,10 +1,8 @@
 -- The standing list.
 --
 --   standing     its rows: name, preference (0 ASAP, 1 ALAP), cost, period
---   row_of t     the row that the table's row t stands for
-use Rattle.std.specs.Prelude.{List, [], ◌∷◌, take, codes}
+use Rattle.std.specs.Prelude.{List, [], ◌∷◌, codes}
 use Rattle.tasks.specs.List.{Row, new_row}
-use Rattle.tasks.specs.declared.standing.StandingRow.{StandingRow}
 
 abbrev pub standing : List Row
 standing =
@@ -17,6 +15,3 @@ standing =
     ∷ new_row (codes "clock") 1 2 200
     ∷ new_row (codes "battery") 1 1 1000
     ∷ []
-
-abbrev pub row_of : StandingRow → Row
-row_of t = new_row (take t.len t.name) t.preference t.cost t.period

@@ -4,7 +4,8 @@
 --   preference_number p   the number that stands for p
 --   name_fits bs          bs can be a name: it has 1 to 16 bytes
 --   name_of n             the bytes of the name n
-use Rattle.std.specs.Prelude.{ℕ, zero, suc, Bool, ◌&&◌, List, length, take, Some, None, Option, nat_le}
+use Rattle.std.specs.Prelude.{ℕ, zero, suc, Bool, ◌&&◌, List, length, Some, None, Option, nat_le}
+use Rattle.fixed.specs.FixedVec.{elements}
 use Rattle.tasks.specs.declared.task.Name.{Name}
 use Rattle.tasks.specs.declared.task.Preference.{Preference}
 use Rattle.tasks.specs.declared.task.Preference.TheVariants.{Asap, Alap}
@@ -22,4 +23,4 @@ abbrev pub name_fits : List ℕ → Bool
 name_fits bs = nat_le 1 (length bs) && nat_le (length bs) 16
 
 abbrev pub name_of : Name → List ℕ
-name_of n = take n.len n.bytes
+name_of n = elements n.bytes

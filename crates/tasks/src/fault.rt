@@ -1,4 +1,6 @@
 // What a refusal says, and the faults of a task row.
+ghost use Rattle.std.specs.Prelude.{◌≡◌};
+
 pub mod calls;
 
 // The layer that found a fault.
@@ -16,6 +18,18 @@ pub struct Refusal {
     pub number: u8,
     pub layer: Layer,
     pub place: u64,
+}
+
+// A fault of any layer: it can be told as a refusal.
+pub trait Refuses {
+    ghost use Rattle.tasks.specs.declared.fault.Refusal.{Refusal};
+
+    // What a fault tells.
+    ghost told: { Self → Refusal };
+
+    // Number, layer and place of the fault.
+    fn refusal(self) -> Refusal
+        ensures { result ≡ told self };
 }
 
 // What is wrong with a task row, each with the place that its caller named.

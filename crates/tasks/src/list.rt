@@ -1,22 +1,20 @@
 // Task lists: open while tasks are added, closed once they are planned.
-ghost use Rattle.std.specs.Prelude.{◌≡◌, ◌≤◌, length};
-
 use crate::task::Task;
+use fixed::fixed_vec::FixedVec;
 
 pub mod calls;
 
-// A list that still takes tasks. It is neither copied nor cloned, so closing it uses it up.
-#[derive(Drop)]
-pub struct OpenList {
-    tasks: [Task; 32],
-    count: usize,
-    ghost room: { (count ≤ 32) × (length tasks ≡ 32) },
-}
+// The most tasks that a list holds: a set of tasks is a word of as many bits.
+pub const MAX_TASKS: usize = 32;
 
 // A list that is closed: it takes no more tasks, and can be planned.
 #[derive(Clone, Copy)]
 pub struct TaskList {
-    tasks: [Task; 32],
-    count: usize,
-    ghost room: { (count ≤ 32) × (length tasks ≡ 32) },
+    tasks: FixedVec<Task, MAX_TASKS>,
+}
+
+// A list that still takes tasks. It is neither copied nor cloned, so closing it uses it up.
+#[derive(Drop)]
+pub struct OpenList {
+    list: TaskList,
 }

@@ -1,86 +1,68 @@
 // The standing list that every mat carries, built in.
-ghost use Rattle.std.specs.Prelude.{◌≡◌, ◌≤◌, [], ◌∷◌, ◌++◌, length, None};
-ghost use Rattle.tasks.specs.List.{rows, listed, opened, add_fault};
-ghost use Rattle.tasks.specs.Standing.{standing, row_of};
+ghost use Rattle.std.specs.Prelude.{◌≡◌, [], ◌∷◌, ◌++◌, length, None};
+ghost use Rattle.tasks.specs.List.{rows, listed, opened, row_said, add_fault};
+ghost use Rattle.tasks.specs.Standing.{standing};
 
 use crate::list::{OpenList, TaskList};
+use crate::task::TaskRow;
 
-// A task of the standing list, as it is handed to `add`: its name is the first `len` bytes.
-#[derive(Clone, Copy)]
-struct StandingRow {
-    name: [u8; 9],
-    len: usize,
-    preference: u8,
-    cost: u16,
-    period: u16,
-}
-
-const TABLE: [StandingRow; 8] = [
-    StandingRow {
-        name: *b"antenna-a",
-        len: 9,
+const TABLE: [TaskRow<'static>; 8] = [
+    TaskRow {
+        name: b"antenna-a",
         preference: 0,
         cost: 1,
         period: 5,
     },
-    StandingRow {
-        name: *b"antenna-b",
-        len: 9,
+    TaskRow {
+        name: b"antenna-b",
         preference: 0,
         cost: 1,
         period: 5,
     },
-    StandingRow {
-        name: *b"pick-----",
-        len: 4,
+    TaskRow {
+        name: b"pick",
         preference: 0,
         cost: 2,
         period: 20,
     },
-    StandingRow {
-        name: *b"beep-----",
-        len: 4,
+    TaskRow {
+        name: b"beep",
         preference: 0,
         cost: 1,
         period: 50,
     },
-    StandingRow {
-        name: *b"card-----",
-        len: 4,
+    TaskRow {
+        name: b"card",
         preference: 1,
         cost: 4,
         period: 50,
     },
-    StandingRow {
-        name: *b"radio----",
-        len: 5,
+    TaskRow {
+        name: b"radio",
         preference: 1,
         cost: 5,
         period: 100,
     },
-    StandingRow {
-        name: *b"clock----",
-        len: 5,
+    TaskRow {
+        name: b"clock",
         preference: 1,
         cost: 2,
         period: 200,
     },
-    StandingRow {
-        name: *b"battery--",
-        len: 7,
+    TaskRow {
+        name: b"battery",
         preference: 1,
         cost: 1,
         period: 1000,
     },
 ];
 
-// Adds a row of the table.
-fn add_row(list: &mut OpenList, row: StandingRow)
-    requires fits { add_fault (length (opened list.old)) (length (opened list.old)) (row_of row) ≡ None }
-    requires name { row.len ≤ 9 }
-    ensures { rows (opened list.new) ≡ rows (opened list.old) ++ row_of row ∷ [] }
+// Adds a row of the table, which can be added at its place.
+fn add_row(list: &mut OpenList, row: TaskRow<'static>)
+    requires { add_fault (length (opened list.old)) (length (opened list.old)) (row_said row) ≡ None }
+    ensures { rows (opened list.new) ≡ rows (opened list.old) ++ row_said row.entry ∷ [] }
 {
-    let _ = list.add(&row.name[0..row.len], row.preference, row.cost, row.period);
+    let _ = list.add(row);
 }
 
 // The standing list, closed.
@@ -88,8 +70,8 @@ pub fn standing_list() -> TaskList
     ensures { rows (listed result) ≡ standing }
 {
     let mut list = OpenList::new();
-    for k in 0..8usize {
-        add_row(&mut list, TABLE[k]);
+    for row in TABLE {
+        add_row(&mut list, row);
     }
     list.close()
 }

@@ -1,5 +1,8 @@
 // A task, with its limits in its type: whoever holds a task knows that they are kept.
 ghost use Rattle.std.specs.Prelude.{◌≡◌, ◌≤◌, length};
+ghost use Rattle.fixed.specs.FixedVec.{elements};
+
+use fixed::fixed_vec::FixedVec;
 
 pub mod calls;
 
@@ -10,12 +13,15 @@ pub enum Preference {
     Alap,
 }
 
-// A name of 1 to 16 bytes: the first `len` of `bytes`.
+// A number that stands for no preference.
+#[derive(Clone, Copy, PartialEq, Eq, Debug)]
+pub struct UnknownPreference(pub u8);
+
+// A name of 1 to 16 bytes.
 #[derive(Clone, Copy)]
 pub struct Name {
-    bytes: [u8; 16],
-    len: usize,
-    ghost size: { (1 ≤ len) × (len ≤ 16) × (length bytes ≡ 16) },
+    bytes: FixedVec<u8, 16>,
+    ghost some: { 1 ≤ length (elements bytes) },
 }
 
 // A periodic task. Each of its jobs takes at most `cost` ticks, and comes at least `period` ticks after the one before.
@@ -26,4 +32,13 @@ pub struct Task {
     pub cost: u16,
     pub period: u16,
     ghost limits: { (1 ≤ cost) × (cost ≤ period) × (period ≤ 60000) },
+}
+
+// A task as it is handed in, by hand or from a file: nothing of it is checked yet. Preference 0 stands for ASAP, 1 for ALAP.
+#[derive(Clone, Copy)]
+pub struct TaskRow<'a> {
+    pub name: &'a [u8],
+    pub preference: u8,
+    pub cost: u16,
+    pub period: u16,
 }

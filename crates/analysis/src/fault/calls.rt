@@ -3,13 +3,13 @@ ghost use Rattle.analysis.specs.Question.{question_refusal};
 ghost use Rattle.std.specs.Prelude.{◌≡◌};
 
 use super::QuestionFault;
-use tasks::fault::{Layer, Refusal};
+use tasks::fault::{Layer, Refusal, Refuses};
 
-impl QuestionFault {
+impl Refuses for QuestionFault {
+    ghost told = { question_refusal };
+
     // Number, layer and place of the fault.
-    pub fn refusal(self) -> Refusal
-        ensures { result ≡ question_refusal self }
-    {
+    fn refusal(self) -> Refusal {
         match self {
             QuestionFault::IllPut(place) => Refusal {
                 number: 17,

@@ -53,6 +53,13 @@ impl<T: Copy, const N: usize> FixedVec<T, N> {
         &self.places[..self.len]
     }
 
+    // Every place: the elements, and behind them what stands in the places that no element has taken.
+    pub fn places(&self) -> &[T]
+        ensures { result.now ≡ self.now.places }
+    {
+        &self.places[..]
+    }
+
     // Puts an element behind the others. Refused exactly if no place is left; the vector then stays as it was.
     pub fn push(&mut self, element: T) -> Result<(), Full>
         ensures { Appends N (element ∷ []) self.old self.new result }

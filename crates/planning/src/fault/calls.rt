@@ -3,47 +3,36 @@ ghost use Rattle.planning.specs.Faults.{plan_refusal, row_refusal};
 ghost use Rattle.std.specs.Prelude.{◌≡◌};
 
 use super::{PlanFault, RowFault};
-use tasks::fault::{Layer, Refusal};
+use tasks::fault::{Layer, Refusal, Refuses};
 
-impl PlanFault {
+impl Refuses for PlanFault {
+    ghost told = { plan_refusal };
+
     // Number, layer and place of the fault: the place is the set left over.
-    pub fn refusal(self) -> Refusal
-        ensures { result ≡ plan_refusal self }
-    {
-        match self {
-            PlanFault::LeftOver(tally) => {
-                Refusal {
-                    number: 16,
-                    layer: Layer::Plan,
-                    place: u64::from(tally.left),
-                }
-            }
+    fn refusal(self) -> Refusal {
+        let PlanFault::LeftOver(tally) = self;
+        Refusal {
+            number: 16,
+            layer: Layer::Plan,
+            place: u64::from(tally.left),
         }
     }
 }
 
-impl RowFault {
+impl Refuses for RowFault {
+    ghost told = { row_refusal };
+
     // Number, layer and place of the fault.
-    pub fn refusal(self) -> Refusal
-        ensures { result ≡ row_refusal self }
-    {
-        let layer = Layer::Plan;
-        match self {
-            RowFault::WrongTask(place) => Refusal {
-                number: 13,
-                layer,
-                place,
-            },
-            RowFault::WrongRank(place) => Refusal {
-                number: 14,
-                layer,
-                place,
-            },
-            RowFault::WrongHold(place) => Refusal {
-                number: 15,
-                layer,
-                place,
-            },
+    fn refusal(self) -> Refusal {
+        let (number, place) = match self {
+            RowFault::WrongTask(place) => (13, place),
+            RowFault::WrongRank(place) => (14, place),
+            RowFault::WrongHold(place) => (15, place),
+        };
+        Refusal {
+            number,
+            layer: Layer::Plan,
+            place,
         }
     }
 }

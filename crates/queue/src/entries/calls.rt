@@ -1,34 +1,53 @@
 // The orders in which held and ready jobs stand.
-ghost use Rattle.queue.specs.Entries.{held_le, ready_le};
+ghost use Rattle.queue.specs.Entries.{held_le, ready_le, ready_cmp};
 ghost use Rattle.std.proofs.Common.{rules};
+ghost use Rattle.std.specs.Cmp.{partial_order_from_own_ties};
+ghost use Rattle.std.specs.Cmp.Rules.{comparing};
+ghost use Rattle.std.specs.Ordering.{is_le, as_partial_cmp};
+ghost use Rattle.std.specs.Prelude.{◌≡◌};
 
 use super::{Held, Ready};
 use crate::order::Ordered;
+use std::cmp::Ordering;
+
+// Held jobs stand by the tick until which they are held, and then by their task.
+fn held_order()
+    ensures { (x y : Held) → is_le (⟦<Held as Ord>⟧.cmp x y) ≡ held_le x y }
+{}
 
 impl Ordered for Held {
-    ghost le = { held_le };
-
-    ghost any = { Prim.search rules };
-
     ghost same = { Prim.search rules };
+}
 
-    ghost over = { Prim.search rules };
+// Ready jobs stand by their rank, the greatest first, and then by their task.
+fn ready_order()
+    ensures { (x y : Ready) → is_le (⟦<Ready as Ord>⟧.cmp x y) ≡ ready_le x y }
+{}
 
-    fn at_most(self, other: Held) -> bool {
-        self.until < other.until || (self.until == other.until && self.task <= other.task)
+impl Ord for Ready {
+    ghost cmp = { ready_cmp };
+
+    ghost total = { Prim.search (comparing, rules) };
+
+    ghost matches_partial_cmp = { Prim.search (comparing, rules) };
+
+    ghost matches_eq = { Prim.search (comparing, rules) };
+
+    fn cmp(&self, other: &Ready) -> Ordering {
+        other.rank.cmp(&self.rank).then(self.task.cmp(&other.task))
+    }
+}
+
+impl PartialOrd for Ready {
+    ghost partial_cmp = { as_partial_cmp ready_cmp };
+
+    ghost laws = { partial_order_from_own_ties (Prim.search (comparing, rules)) (Prim.search (comparing, rules)) };
+
+    fn partial_cmp(&self, other: &Ready) -> Option<Ordering> {
+        Some(self.cmp(other))
     }
 }
 
 impl Ordered for Ready {
-    ghost le = { ready_le };
-
-    ghost any = { Prim.search rules };
-
     ghost same = { Prim.search rules };
-
-    ghost over = { Prim.search rules };
-
-    fn at_most(self, other: Ready) -> bool {
-        self.rank > other.rank || (self.rank == other.rank && self.task <= other.task)
-    }
 }

@@ -3,19 +3,18 @@ ghost use Rattle.queue.specs.Faults.{queue_refusal};
 ghost use Rattle.std.specs.Prelude.{◌≡◌};
 
 use super::QueueFault;
-use tasks::fault::{Layer, Refusal};
+use tasks::fault::{Layer, Refusal, Refuses};
 
-impl QueueFault {
+impl Refuses for QueueFault {
+    ghost told = { queue_refusal };
+
     // Number, layer and place of the fault: the place is the length available.
-    pub fn refusal(self) -> Refusal
-        ensures { result ≡ queue_refusal self }
-    {
-        match self {
-            QueueFault::Full(place) => Refusal {
-                number: 22,
-                layer: Layer::Run,
-                place,
-            },
+    fn refusal(self) -> Refusal {
+        let QueueFault::Full(place) = self;
+        Refusal {
+            number: 22,
+            layer: Layer::Run,
+            place,
         }
     }
 }

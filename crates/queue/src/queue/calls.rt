@@ -1,12 +1,13 @@
 // Making a queue, putting elements in, and taking them out.
 ghost use Rattle.queue.specs.Queues.{held, Made, Takes, Puts};
-ghost use Rattle.queue.specs.Sequences.{first, drop_one, holds, Ascending};
+ghost use Rattle.queue.specs.Sequences.{drop_one, holds};
+ghost use Rattle.std.specs.List.{slice_get};
+ghost use Rattle.std.specs.List.Sorted.{IsPermutation, IsSorted};
 ghost use Rattle.std.specs.Prelude.{◌≡◌, true, ◌∷◌, length, drop, is_ok};
-ghost use Rattle.std.specs.List.Sorted.{IsPermutation};
 
 use super::Queue;
 use crate::fault::QueueFault;
-use crate::line::{drop_front, first_of, put_in, take_from};
+use crate::line::{put_in, take_from};
 use crate::order::Ordered;
 
 impl<'a, T: Ordered> Queue<'a, T> {
@@ -39,16 +40,15 @@ impl<'a, T: Ordered> Queue<'a, T> {
 
     // The first element, if there is one.
     pub fn front(&self) -> Option<T>
-        ensures { result ≡ first (held self.now) }
+        ensures { result ≡ slice_get (held self.now) 0 }
     {
-        let count = self.len();
-        first_of(self.places, count)
+        self.places[..self.len()].first().copied()
     }
 
     // Puts an element in behind those that are at most it. Refused exactly if the memory is full.
     pub fn put(&mut self, new: T) -> Result<(), QueueFault>
-        ensures puts { Puts T.le new self.old self.new result }
-        ensures stays_sorted { Ascending T.le (held self.old) → Ascending T.le (held self.new) }
+        ensures puts { Puts T.cmp new self.old self.new result }
+        ensures stays_sorted { IsSorted T.cmp (held self.old) → IsSorted T.cmp (held self.new) }
         ensures one_more { is_ok result ≡ true → IsPermutation (new ∷ held self.old) (held self.new) }
     {
         let count = self.len();
@@ -63,26 +63,23 @@ impl<'a, T: Ordered> Queue<'a, T> {
 
     // Takes the first element out, if there is one.
     pub fn take_front(&mut self) -> Option<T>
-        ensures first { result ≡ first (held self.old) }
+        ensures first { result ≡ slice_get (held self.old) 0 }
         ensures rest { Takes (drop 1 (held self.old)) self.old self.new }
-        ensures stays_sorted { Ascending T.le (held self.old) → Ascending T.le (held self.new) }
+        ensures stays_sorted { IsSorted T.cmp (held self.old) → IsSorted T.cmp (held self.new) }
     {
-        let front = self.front();
         let count = self.len();
-        if count > 0 {
-            drop_front(self.places, count);
-            self.count = count - 1;
-        } else {
-            self.count = 0;
-        }
-        front
+        self.count = count;
+        let front = self.front()?;
+        self.places.copy_within(1..count, 0);
+        self.count = count - 1;
+        Some(front)
     }
 
     // Takes the first element that is equal to this one out, and says whether there was one.
     pub fn take_out(&mut self, wanted: T) -> bool
-        ensures found { result ≡ holds T.le wanted (held self.old) }
-        ensures rest { Takes (drop_one T.le wanted (held self.old)) self.old self.new }
-        ensures stays_sorted { Ascending T.le (held self.old) → Ascending T.le (held self.new) }
+        ensures found { result ≡ holds T.cmp wanted (held self.old) }
+        ensures rest { Takes (drop_one T.cmp wanted (held self.old)) self.old self.new }
+        ensures stays_sorted { IsSorted T.cmp (held self.old) → IsSorted T.cmp (held self.new) }
         ensures one_fewer { result ≡ true → IsPermutation (held self.old) (wanted ∷ held self.new) }
     {
         let count = self.len();

@@ -2,7 +2,7 @@
 ghost use Rattle.tasks.specs.Faults.{layer_word, task_refusal};
 ghost use Rattle.std.specs.Prelude.{◌≡◌};
 
-use super::{Layer, Refusal, TaskFault};
+use super::{Layer, Refusal, Refuses, TaskFault};
 
 impl Layer {
     // The word that a printed refusal has for the layer.
@@ -18,43 +18,22 @@ impl Layer {
     }
 }
 
-impl TaskFault {
-    // Number, layer and place of the fault.
-    pub fn refusal(self) -> Refusal
-        ensures { result ≡ task_refusal self }
-    {
-        let layer = Layer::Task;
-        match self {
-            TaskFault::NameLength(place) => Refusal {
-                number: 5,
-                layer,
-                place,
-            },
-            TaskFault::UnknownPreference(place) => Refusal {
-                number: 6,
-                layer,
-                place,
-            },
-            TaskFault::ZeroCost(place) => Refusal {
-                number: 7,
-                layer,
-                place,
-            },
-            TaskFault::CostAbovePeriod(place) => Refusal {
-                number: 8,
-                layer,
-                place,
-            },
-            TaskFault::PeriodTooLong(place) => Refusal {
-                number: 9,
-                layer,
-                place,
-            },
-            TaskFault::TooManyTasks(place) => Refusal {
-                number: 10,
-                layer,
-                place,
-            },
+impl Refuses for TaskFault {
+    ghost told = { task_refusal };
+
+    fn refusal(self) -> Refusal {
+        let (number, place) = match self {
+            TaskFault::NameLength(place) => (5, place),
+            TaskFault::UnknownPreference(place) => (6, place),
+            TaskFault::ZeroCost(place) => (7, place),
+            TaskFault::CostAbovePeriod(place) => (8, place),
+            TaskFault::PeriodTooLong(place) => (9, place),
+            TaskFault::TooManyTasks(place) => (10, place),
+        };
+        Refusal {
+            number,
+            layer: Layer::Task,
+            place,
         }
     }
 }

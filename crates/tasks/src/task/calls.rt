@@ -1,29 +1,34 @@
-// Making and reading names, and the number that stands for a preference.
+// Making and reading names, the number that stands for a preference, and whether a row keeps the limits.
 ghost use Rattle.tasks.specs.Task.{name_of, name_fits, preference_of, preference_number};
-ghost use Rattle.std.specs.Prelude.{◌≡◌, true, false, MatchOption};
+ghost use Rattle.std.specs.Prelude.{◌≡◌, true, false, Some, None, MatchOption, MatchResult};
 
-use super::{Name, Preference};
+use super::{Name, Preference, UnknownPreference};
+use fixed::fixed_vec::FixedVec;
 
 // The longest name, in bytes.
 pub const MAX_NAME: usize = 16;
 
-impl Preference {
-    // The preference that a number stands for, if it stands for one.
-    pub fn from_number(number: u8) -> Option<Preference>
-        ensures { result ≡ preference_of number }
-    {
+// The preference that a number stands for in a list file, if it stands for one.
+impl TryFrom<u8> for Preference {
+    type Error = UnknownPreference;
+
+    ghost try_from_gives = { λ n r. MatchResult r (λ p. preference_of n ≡ Some p) (λ e. (preference_of n ≡ None) × (e.0 ≡ n)) };
+
+    fn try_from(number: u8) -> Result<Preference, UnknownPreference> {
         match number {
-            0 => Some(Preference::Asap),
-            1 => Some(Preference::Alap),
-            _ => None,
+            0 => Ok(Preference::Asap),
+            1 => Ok(Preference::Alap),
+            _ => Err(UnknownPreference(number)),
         }
     }
+}
 
-    // The number that stands for a preference in a list file.
-    pub fn number(self) -> u8
-        ensures { result ≡ preference_number self }
-    {
-        match self {
+// The number that stands for a preference in a list file.
+impl From<Preference> for u8 {
+    ghost from_gives = { λ p n. n ≡ preference_number p };
+
+    fn from(preference: Preference) -> u8 {
+        match preference {
             Preference::Asap => 0,
             Preference::Alap => 1,
         }
@@ -32,28 +37,28 @@ impl Preference {
 
 impl Name {
     // A name for places that no task has taken.
-    pub(crate) const FILLER: Name = Name {
-        bytes: [0u8; 16],
-        len: 1,
-    };
+    pub(crate) fn filler() -> Name {
+        Name {
+            bytes: FixedVec::first_of([0u8; MAX_NAME], 1),
+        }
+    }
 
     // The name with these bytes, if there are 1 to 16 of them.
     pub fn new(text: &[u8]) -> Option<Name>
         ensures { MatchOption result (name_fits text.now ≡ false) (λ n. (name_fits text.now ≡ true) × (name_of n ≡ text.now)) }
     {
-        let len = text.len();
-        if len == 0 || len > MAX_NAME {
+        if text.is_empty() {
             return None;
         }
-        let mut bytes = [0u8; 16];
-        bytes[0..len].copy_from_slice(text);
-        Some(Name { bytes, len })
+        let mut bytes = FixedVec::new(0);
+        bytes.extend_from_slice(text).ok()?;
+        Some(Name { bytes })
     }
 
     // The bytes of the name.
     pub fn bytes(&self) -> &[u8]
         ensures { result.now ≡ name_of self.now }
     {
-        &self.bytes[0..self.len]
+        self.bytes.as_slice()
     }
 }

@@ -1,20 +1,35 @@
-use Rattle.std.proofs.Common.{sym, arith}
+use Rattle.std.proofs.Common.{◌≡◌, take, length, remove, position, is_eq, sym, ap, ◌∙◌, arith, rules, tests}
+use Rattle.std.specs.List.{position_or_len}
+use Rattle.std.proofs.lemmas.Iterator.{YieldsList-from_slice}
+use Rattle.std.proofs.lemmas.Iterator.Search.{position_from_yields_List}
 use Rattle.std.proofs.lemmas.List.{length-take-le}
-use Rattle.queue.proofs.Laying.{laid_close, laid_same}
+use Rattle.queue.specs.Sequences.{laid}
+use Rattle.queue.proofs.Searching.{found_at, found_none}
+use Rattle.queue.proofs.Laying.{closed, unchanged}
 use Rattle.queue.proofs.line.take_from.Goals as goal
 
-pub returns-in-Some : goal.returns-in-Some
-returns-in-Some g c =
-    let found = c.in-Some.ensures in
+pub returns-in_default : goal.returns-in_default
+returns-in_default g c =
+    let xs = c.args.places.now in
+    let es = take c.args.count xs in
+    let equal = λ (e : g.row.T.Denot). is_eq (g.T.Ord.cmp e c.args.wanted) in
+    let long : length es ≡ c.args.count = length-take-le c.args.count xs c.requires in
+    let found : c.position.result ≡ position equal es = position_from_yields_List equal _ _ c.position.result c.position.ensures.ran (YieldsList-from_slice es c.iter.ensures.rest) (λ x b q k. search (rules, tests)) in
+    let none = found_none equal es (sym c.in_default.is ∙ found) in
     record {
-      found = sym found.there;
-      after = laid_close c.args.places.now c.args.count c.requires c.in-Some.from _ _ (omega (arith, found.within, length-take-le c.args.count c.args.places.now c.requires)) found.rest c.close_at.ensures;
+      found = sym none.0;
+      after = unchanged xs c.args.count (position_or_len equal es) c.requires (omega (arith, none.1, long));
     }
 
-pub returns-in-None : goal.returns-in-None
-returns-in-None g c =
-    let missing = c.in-None.ensures in
+pub returns : goal.returns
+returns g c =
+    let xs = c.args.places.now in
+    let es = take c.args.count xs in
+    let equal = λ (e : g.row.T.Denot). is_eq (g.T.Ord.cmp e c.args.wanted) in
+    let long : length es ≡ c.args.count = length-take-le c.args.count xs c.requires in
+    let found : c.position.result ≡ position equal es = position_from_yields_List equal _ _ c.position.result c.position.ensures.ran (YieldsList-from_slice es c.iter.ensures.rest) (λ x b q k. search (rules, tests)) in
+    let at = found_at equal es c.in-Some.at (sym c.in-Some.is ∙ found) in
     record {
-      found = sym missing.nowhere;
-      after = laid_same c.args.places.now c.args.count c.requires _ missing.same;
+      found = sym at.0;
+      after = c.copy_within.ensures.after ∙ closed xs c.args.count c.in-Some.at c.requires (omega (arith, at.1, long)) ∙ ap (λ i. laid (remove es i) xs) at.2;
     }

@@ -4,5 +4,5 @@ use Rattle.tasks.specs.List.{rows, opened}
 use Rattle.tasks.specs.Standing.{standing}
 use Rattle.tasks.proofs.standing.standing_list.Given as goal
 
-abbrev pub invariant-loop-k : goal.invariant-loop-k
-invariant-loop-k l = rows (opened l.list) ≡ take l.k standing
+abbrev pub invariant-loop-row : goal.invariant-loop-row
+invariant-loop-row l = rows (opened l.list) ≡ take l.row-index standing

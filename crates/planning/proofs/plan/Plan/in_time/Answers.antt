@@ -10,7 +10,7 @@ use Rattle.planning.proofs.plan.Plan.in_time.Goals as goal
 pub returns-in_default : goal.returns-in_default
 returns-in_default c = (
   λ e. absurd (false≢true e),
-  λ t. absurd (not_listed (listed c.list.result.now) c.args.task c.in_default.ensures (omega (arith, t.0, ap (λ l. length (listed l)) c.list.ensures))),
+  λ t. absurd (omega (arith, t.0, not_listed (listed c.list.result.now) c.args.task c.in_default.ensures, ap (λ l. length (listed l)) c.list.ensures)),
 )
 
 pub returns : goal.returns

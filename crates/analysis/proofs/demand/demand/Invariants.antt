@@ -1,9 +1,0 @@
--- What is added so far and the load of the tasks that are left are the demand.
-use Rattle.std.proofs.Common.{◌≡◌, ◌+◌, ◌*◌, ◌^◌, ◌≤◌, drop}
-use Rattle.analysis.specs.Demand.{load, demand}
-use Rattle.analysis.proofs.demand.demand.Given as goal
-
-abbrev pub invariant-loop-other : goal.invariant-loop-other
-invariant-loop-other l =
-    (l.sum + load l.list (drop l.other-index l.tasks) l.rest l.ticks ≡ demand l.list l.set l.task l.ticks)
-    × (l.sum ≤ (l.other-index + 1) * 2 ^ 32)
