@@ -1,6 +1,6 @@
 -- What the head of a record tells: no fault where each of its checks passed, and each check passed where there is no fault. Assumes nothing.
-use Rattle.std.proofs.Common.{◌≡◌, ℕ, ◌+◌, ◌-◌, ◌≤◌, Bool, true, false, cond, eqb, List, length, get_or, take, drop, Some, None, Option, sym, refl, ap, ◌∙◌, arith, length-drop}
-use Rattle.std.proofs.lemmas.List.{take_rest, length-take-le}
+use Rattle.std.proofs.Common.{◌≡◌, ℕ, ◌+◌, ◌≤◌, Bool, true, false, cond, eqb, List, length, get_or, drop, Some, None, Option, sym, refl, ap, ◌∙◌, arith, length-drop}
+use Rattle.std.proofs.lemmas.List.{length-take-le}
 use Rattle.std.proofs.lemmas.Bool.{le-ltb, ltb-false, not-false, cond_both}
 use Rattle.std.proofs.lemmas.Bool.Decides.{nat_tests}
 use Rattle.files.specs.Format.{Said, head_fault, marked, kind_fits, length_fits, body, size, said, is_end}
@@ -38,9 +38,6 @@ sound f at bs e =
       fits = not-false _ d.0;
       whole = ltb-false _ _ g.0;
     }
-
-pub part_is : (bs : List ℕ) (n : ℕ) → take (n - 0) (take (length bs - 4) (drop 4 bs)) ≡ take n (drop 4 bs)
-part_is bs n = ap (λ xs. take (n - 0) xs) (take_rest bs 4) ∙ ap (λ k. take k (drop 4 bs)) (omega arith)
 
 pub length_body : (bs : List ℕ) → size bs ≤ length bs → length (body bs) ≡ get_or bs 3 0
 length_body bs h = length-take-le (get_or bs 3 0) (drop 4 bs) (omega (arith, length-drop 4 bs))
