@@ -1,8 +1,6 @@
 -- What the program's input comes to, from what reading and planning answered. Assumes nothing.
-use Rattle.std.proofs.Common.{◌≡◌, ℕ, true, false, eqb, List, Ok, Err, Result, sym, refl, ap, ◌∙◌, subst, ⊎_elim, is_ok, MatchResult}
-use Rattle.std.specs.Result.{IsErrAnd}
-use Rattle.std.proofs.lemmas.Result.{err_from_is_err_and}
-use Rattle.std.proofs.lemmas.Bool.{cases_Bool, true≢false, cond-true, cond-false, eqb-true, eqb-false}
+use Rattle.std.proofs.Common.{◌≡◌, ℕ, true, false, eqb, List, Ok, Err, Result, sym, refl, ap, ◌∙◌, subst, ⊎_elim, MatchResult}
+use Rattle.std.proofs.lemmas.Bool.{cases_Bool, cond-true, cond-false, eqb-true, eqb-false}
 use Rattle.tasks.specs.List.{rows, listed}
 use Rattle.tasks.specs.declared.list.TaskList.{TaskList}
 use Rattle.analysis.specs.Response.{response}
@@ -12,11 +10,9 @@ use Rattle.planning.specs.declared.fault.PlanFault.{PlanFault}
 use Rattle.planning.specs.declared.fault.PlanFault.TheVariants.{LeftOver}
 use Rattle.planning.specs.declared.fault.Tally.{Tally}
 use Rattle.planning.specs.declared.plan.Plan.{Plan}
-use Rattle.files.specs.ListFiles.{decoded, Reads}
+use Rattle.files.specs.ListFiles.{decoded}
 use Rattle.files.specs.Faults.{list_refusal}
-use Rattle.files.specs.Program.{Verdict, planned, refused, OfList, OfBytes, Plans}
-use Rattle.files.specs.declared.program.Fault.{Fault}
-use Rattle.files.specs.declared.program.Fault.TheVariants as fault
+use Rattle.files.specs.Program.{Verdict, planned, refused, OfList, OfBytes}
 use Rattle.files.specs.declared.fault.FileFault.{FileFault}
 use Rattle.tasks.specs.declared.fault.TaskFault.{TaskFault}
 
@@ -48,27 +44,15 @@ answered_err f u e =
 of_list : (bs : List ℕ) (l : TaskList) (v : Verdict) → decoded bs ≡ Ok (rows (listed l)) → OfList l v → OfBytes bs v
 of_list bs l v e h = subst (λ d. MatchResult d (λ rs. (k : TaskList) × (rows (listed k) ≡ rs) × OfList k v) (λ f. v ≡ refused (list_refusal f))) (sym e) (l, refl, h)
 
-of_plan : (bs : List ℕ) (l : TaskList) (p : Plan) (t : Tally) → decoded bs ≡ Ok (rows (listed l)) → Ok t ≡ answered (tally (response l) l) → Written (response l) l p → OfBytes bs (planned p t.questions)
+pub of_plan : (bs : List ℕ) (l : TaskList) (p : Plan) (t : Tally) → decoded bs ≡ Ok (rows (listed l)) → Ok t ≡ answered (tally (response l) l) → Written (response l) l p → OfBytes bs (planned p t.questions)
 of_plan bs l p t e a w =
     let s = answered_ok t (tally (response l) l) a in
     of_list bs l (planned p t.questions) e (s.0, w, ap (λ u. u.questions) s.1)
 
-of_left : (bs : List ℕ) (l : TaskList) (f : PlanFault) → decoded bs ≡ Ok (rows (listed l)) → Err f ≡ answered (tally (response l) l) → OfBytes bs (refused (plan_refusal f))
+pub of_left : (bs : List ℕ) (l : TaskList) (f : PlanFault) → decoded bs ≡ Ok (rows (listed l)) → Err f ≡ answered (tally (response l) l) → OfBytes bs (refused (plan_refusal f))
 of_left bs l f e a =
     let s = answered_err f (tally (response l) l) a in
     of_list bs l (refused (plan_refusal f)) e (s.0, ap plan_refusal s.1)
-
--- a list that was read is that of the bytes
-pub of_reading : (bs : List ℕ) (old new : TaskList) (a : Result (Unit {0}) (FileFault TaskFault)) → Reads bs old new a → true ≡ is_ok a → decoded bs ≡ Ok (rows (listed new))
-of_reading bs old new (Ok u) r e = r.says
-of_reading bs old new (Err f) r e = absurd (true≢false e)
-
--- what planning answered, with its fault as one of the program
-pub of_planning : (bs : List ℕ) (l : TaskList) (p : Plan) (a : Result Tally PlanFault) (r : Result Tally Fault) → decoded bs ≡ Ok (rows (listed l)) → a ≡ answered (tally (response l) l) → (is_ok a ≡ true → Written (response l) l p) → MatchResult a (λ t. r ≡ Ok t) (λ f. IsErrAnd r (λ g. g ≡ fault.Plan f)) → Plans bs p r
-of_planning bs l p (Ok t) r e a w m = subst (Plans bs p) (sym m) (of_plan bs l p t e a (w refl))
-of_planning bs l p (Err f) r e a w m =
-    let h = err_from_is_err_and r m in
-    subst (Plans bs p) (sym (h.1 ∙ ap Err h.2)) (of_left bs l f e a)
 
 pub of_fault : (bs : List ℕ) (f : FileFault TaskFault) → decoded bs ≡ Err f → OfBytes bs (refused (list_refusal f))
 of_fault bs f e = subst (λ d. MatchResult d (λ rs. (k : TaskList) × (rows (listed k) ≡ rs) × OfList k (refused (list_refusal f))) (λ g. refused (list_refusal f) ≡ refused (list_refusal g))) (sym e) refl

@@ -42,7 +42,7 @@ impl Gather for OpenList {
         let Record::Task(row) = record else {
             return Err(FileFault::Bytes(ByteFault::WrongKind(at)));
         };
-        self.add_at(at, row).map_err(FileFault::Row)?;
+        self.add_at(at, row)?;
         Ok(())
     }
 }

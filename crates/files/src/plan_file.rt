@@ -40,7 +40,8 @@ impl Gather for OpenPlan {
         let Record::Plan { task, row } = record else {
             return Err(FileFault::Bytes(ByteFault::WrongKind(at)));
         };
-        self.row(at, usize::from(task), row).map_err(FileFault::Row)
+        self.row(at, usize::from(task), row)?;
+        Ok(())
     }
 }
 

@@ -1,10 +1,11 @@
 // What the faults of files tell, and how a fault of the bytes becomes one of a file.
 ghost use Rattle.files.specs.Faults.{byte_refusal, file_refusal};
-ghost use Rattle.files.specs.declared.fault.FileFault.TheVariants.{Bytes};
+ghost use Rattle.files.specs.declared.fault.FileFault.TheVariants.{Bytes, Row};
 ghost use Rattle.std.specs.Prelude.{◌≡◌};
 
-use super::{ByteFault, FileFault};
-use tasks::fault::{Layer, Refusal, Refuses};
+use super::{ByteFault, FileFault, ListFault, PlanFileFault};
+use planning::fault::RowFault;
+use tasks::fault::{Layer, Refusal, Refuses, TaskFault};
 
 impl Refuses for ByteFault {
     ghost told = { byte_refusal };
@@ -44,5 +45,22 @@ impl<F> From<ByteFault> for FileFault<F> {
 
     fn from(fault: ByteFault) -> FileFault<F> {
         FileFault::Bytes(fault)
+    }
+}
+
+// One impl for every kind of row would also be one for faults of bytes, which have theirs.
+impl From<TaskFault> for ListFault {
+    ghost from_gives = { λ f r. r ≡ Row f };
+
+    fn from(fault: TaskFault) -> ListFault {
+        FileFault::Row(fault)
+    }
+}
+
+impl From<RowFault> for PlanFileFault {
+    ghost from_gives = { λ f r. r ≡ Row f };
+
+    fn from(fault: RowFault) -> PlanFileFault {
+        FileFault::Row(fault)
     }
 }

@@ -1,12 +1,14 @@
 // Planning a list file.
 ghost use Rattle.files.specs.Program.{fault_refusal, Prints, Plans};
+ghost use Rattle.files.specs.declared.program.Fault.TheVariants.{List, Plan as PlanOf};
+ghost use Rattle.std.specs.Prelude.{◌≡◌};
 
 use super::{Fault, Outcome};
-use crate::fault::ByteFault;
+use crate::fault::{ByteFault, ListFault};
 use crate::list_file::read_list;
 use crate::print::print_fault;
 use crate::report::print_plan;
-use planning::fault::Tally;
+use planning::fault::{PlanFault, Tally};
 use planning::plan::Plan;
 use planning::plan::planner::plan_exact;
 use tasks::fault::{Refusal, Refuses};
@@ -23,13 +25,29 @@ impl Refuses for Fault {
     }
 }
 
+impl From<ListFault> for Fault {
+    ghost from_gives = { λ f r. r ≡ List f };
+
+    fn from(fault: ListFault) -> Fault {
+        Fault::List(fault)
+    }
+}
+
+impl From<PlanFault> for Fault {
+    ghost from_gives = { λ f r. r ≡ PlanOf f };
+
+    fn from(fault: PlanFault) -> Fault {
+        Fault::Plan(fault)
+    }
+}
+
 // Reads a list file and plans its list by the exact test, into the lent plan.
 fn plan_list(input: &[u8], plan: &mut Plan) -> Result<Tally, Fault>
     ensures { Plans input.now plan.new result }
 {
     let mut list = OpenList::new().close();
-    read_list(input, &mut list).map_err(Fault::List)?;
-    plan_exact(&list, plan).map_err(Fault::Plan)
+    read_list(input, &mut list)?;
+    Ok(plan_exact(&list, plan)?)
 }
 
 // Plans a list file and prints what came of it: the report of the plan, or the line of the refusal. Where the buffer is too
