@@ -25,16 +25,13 @@ pub record Chosen (bound : ℕ → ℕ → Option ℕ) (l : TaskList) (U : ℕ) 
   pub bounded : bound (without U c.task) c.task ≡ Some c.bound
   pub slack_is : c.slack ≡ deadline l (task_at l c.task) - c.bound
 
-none_some : {X : Type 0} {x : X} → ◌≡◌ {A = Option X} None (Some x) → ⊥
-none_some e = cc
-
 better_some : (old new : Option Candidate) (c : Candidate) → better old new ≡ Some c → (old ≡ Some c) ⊎ (new ≡ Some c)
 better_some None new c e = inr e
 better_some (Some old) None c e = inl e
 better_some (Some old) (Some new) c e = ⊎_elim (λ a. inr (sym a)) (λ a. inl (sym a)) (cases_cond (ltb old.slack new.slack) (Some new) (Some old) (Some c) (sym e))
 
 candidate_some : (bound : ℕ → ℕ → Option ℕ) (l : TaskList) (U k : ℕ) (o : Option ℕ) (c : Candidate) → bit U k ≡ 1 → bound (without U k) k ≡ o → candidate l k o ≡ Some c → Chosen bound l U c
-candidate_some bound l U k None c i b e = absurd (none_some e)
+candidate_some bound l U k None c i b e = cc
 candidate_some bound l U k (Some x) c i b e =
     let made : Candidate = record { task = k; bound = x; slack = deadline l (task_at l k) - x } in
     let same : made ≡ c = cc in
@@ -48,7 +45,7 @@ one_more false f c = omega arith
 module _ (bound : ℕ → ℕ → Option ℕ) (l : TaskList) (U : ℕ) where
   pub search_chosen : (p : Preference) (k : ℕ) (c : Candidate) → (search_below bound l p U k).best ≡ Some c → Chosen bound l U c
   unfolding search_below
-  search_chosen p zero c e = absurd (none_some e)
+  search_chosen p zero c e = cc
   search_chosen p (suc k) c e =
       ⊎_elim
       (λ (asked : asks l p U k ≡ true).
@@ -75,9 +72,12 @@ module _ (bound : ℕ → ℕ → Option ℕ) (l : TaskList) (U : ℕ) where
         one_more (asks l Asap U k) (search_below bound l Asap U k) (candidate l k (bound (without U k) k)),
       )
 
-  pub search_few : (p : Preference) (k : ℕ) → (search_below bound l p U k).questions ≤ k
+  search_few : (p : Preference) (k : ℕ) → (search_below bound l p U k).questions ≤ k
   search_few Alap k = omega (arith, search_questions k, size_le U k)
   search_few Asap k = omega (arith, search_questions k, size_le U k)
+
+  pub found_few : (p : Preference) (k : ℕ) (f : Found) → f ≡ search_below bound l p U k → f.questions ≤ k
+  found_few p k f e = omega (arith, ap (λ g. g.questions) e, search_few p k)
 
   pub round_chosen : (c : Candidate) → (round bound l U).best ≡ Some c → Chosen bound l U c
   unfolding round
@@ -107,10 +107,10 @@ module _ (bound : ℕ → ℕ → Option ℕ) (l : TaskList) (U : ℕ) where
   unfolding search_below
   search_none p = refl
 
-  pub search_asked : (p : Preference) (k : ℕ) (f : Found) → f ≡ search_below bound l p U k → asks l p U k ≡ true → considered f (candidate l k (bound (without U k) k)) ≡ search_below bound l p U (k + 1)
+  pub search_asked : (p : Preference) (k : ℕ) (f new : Found) (c : Option Candidate) → f ≡ search_below bound l p U k → asks l p U k ≡ true → c ≡ candidate l k (bound (without U k) k) → new ≡ considered f c → new ≡ search_below bound l p U (k + 1)
   unfolding search_below
-  search_asked p k f e a =
-      ap (λ g. considered g (candidate l k (bound (without U k) k))) e ∙ sym (cond-true (asks l p U k) _ _ a) ∙ ap (search_below bound l p U) (sym (add-one k))
+  search_asked p k f new c e a h n =
+      n ∙ (λ i. considered (e i) (h i)) ∙ sym (cond-true (asks l p U k) _ _ a) ∙ ap (search_below bound l p U) (sym (add-one k))
 
   pub search_passed : (p : Preference) (k : ℕ) (f : Found) → f ≡ search_below bound l p U k → asks l p U k ≡ false → f ≡ search_below bound l p U (k + 1)
   unfolding search_below
@@ -138,8 +138,10 @@ premised_without l U k all h = record {
   apart = bit_without_same U k;
 }
 
-pub candidate_is : (l : TaskList) (k b s : ℕ) (o : Option ℕ) → Some b ≡ o → s ≡ deadline l (task_at l k) - b → Some (record { task = k; bound = b; slack = s }) ≡ candidate l k o
-candidate_is l k b s o e h = (λ i. Some (record { task = k; bound = b; slack = h i })) ∙ ap (candidate l k) e
+-- the candidate that the code makes of the answer b to the question about task k, whose deadline leaves the slack s
+pub candidate_is : (bound : ℕ → ℕ → Option ℕ) (l : TaskList) (U k b s set : ℕ) (x : Task) → set ≡ without U k → Some b ≡ bound set k → x ≡ task_at l k → s ≡ deadline l x - b → Some (record { task = k; bound = b; slack = s }) ≡ candidate l k (bound (without U k) k)
+candidate_is bound l U k b s set x below e read h =
+    (λ i. Some (record { task = k; bound = b; slack = (h ∙ ap (λ t. deadline l t - b) read) i })) ∙ ap (candidate l k) (e ∙ ap (λ u. bound u k) below)
 
 -- what `==` on preferences tells
 prefers_is : (q p : Preference) → sameb the_type q p ≡ prefers p q

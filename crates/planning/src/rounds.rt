@@ -25,7 +25,7 @@ pub struct Found {
 
 // A round: the test, the list, and the set of the unplaced tasks, which are all listed.
 #[derive(Drop)]
-pub struct Round<'a, T> {
+pub(crate) struct Round<'a, T> {
     test: &'a T,
     list: &'a TaskList,
     unplaced: u32,

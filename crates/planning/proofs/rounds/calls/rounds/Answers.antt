@@ -1,4 +1,4 @@
-use Rattle.std.proofs.Common.{◌≡◌, ◌+◌, ◌-◌, ◌≤◌, length, subst, arith}
+use Rattle.std.proofs.Common.{◌≡◌, ◌+◌, ◌-◌, ◌<◌, ◌≤◌, length, subst, arith}
 use Rattle.tasks.specs.List.{listed}
 use Rattle.planning.proofs.GoingOn.{Going, going_start, going_listed, going_fits, going_chosen, going_at, going_ended, going_all}
 use Rattle.planning.proofs.rounds.calls.rounds.Goals as goal
@@ -14,7 +14,8 @@ overflow_add-draft g c = record { fits = going_fits _ _ _ _ c.loop-rank.invarian
 
 pub returns-in_default : goal.returns-in_default
 returns-in_default g c =
-    let ended = going_ended _ _ _ _ c.loop-rank.invariant c.found-found.result (omega (arith, c.loop-rank-test.true, c.loop-rank.auto.rank, c.len-rank-end.ensures)) c.found-found.ensures.value c.in_default.is in
+    let here : c.loop-rank.rank - 1 < length (listed c.args.list.now) = omega (arith, c.loop-rank-test.true, c.loop-rank.auto.rank, c.len-rank-end.ensures) in
+    let ended = going_ended (g.T.Test.bound c.args.test.now c.args.list.now) c.args.list.now (c.loop-rank.rank - 1) c.loop-rank.draft c.loop-rank.invariant c.found-found.result here c.found-found.ensures.value c.in_default.is in
     record { value = ended.value; drafted = ended.drafted; stuck = ended.stuck; few = ended.few }
 
 pub place-requires : goal.place-requires
@@ -24,18 +25,22 @@ place-requires g c =
 
 pub loop-rank-preserved : goal.loop-rank-preserved
 loop-rank-preserved g c =
+    let l = c.args.list.now in
+    let bound = g.T.Test.bound c.args.test.now l in
     let r = c.loop-rank.rank in
-    let here : r ≤ length (listed c.args.list.now) = omega (arith, c.loop-rank-test.true, c.len-rank-end.ensures) in
-    let next = going_at _ _ _ _ c.loop-rank.invariant r c.found-found.result c.in-Some.chosen c.place.new.self (omega (arith, c.loop-rank.auto.rank)) here c.found-found.ensures.value c.in-Some.is c.place.ensures in
+    let here : r ≤ length (listed l) = omega (arith, c.loop-rank-test.true, c.len-rank-end.ensures) in
+    let next = going_at bound l (r - 1) c.loop-rank.draft c.loop-rank.invariant r c.found-found.result c.in-Some.chosen c.place.new.self (omega (arith, c.loop-rank.auto.rank)) here c.found-found.ensures.value c.in-Some.is c.place.ensures in
     let same : r ≡ r + 1 - 1 = omega arith in
-    subst (λ j. Going (g.T.Test.bound c.args.test.now c.args.list.now) c.args.list.now j c.place.new.self) same next
+    subst (λ j. Going bound l j c.place.new.self) same next
 
 pub returns-in-Some : goal.returns-in-Some
 returns-in-Some g c =
+    let l = c.args.list.now in
+    let bound = g.T.Test.bound c.args.test.now l in
     let r = c.loop-rank.rank in
-    let here : r ≤ length (listed c.args.list.now) = omega (arith, c.loop-rank-test.true, c.len-rank-end.ensures) in
-    let next = going_at _ _ _ _ c.loop-rank.invariant r c.found-found.result c.in-Some.chosen c.place.new.self (omega (arith, c.loop-rank.auto.rank)) here c.found-found.ensures.value c.in-Some.is c.place.ensures in
-    let ended = going_all _ _ _ _ next (omega (arith, c.len-rank-end.ensures)) in
+    let here : r ≤ length (listed l) = omega (arith, c.loop-rank-test.true, c.len-rank-end.ensures) in
+    let next = going_at bound l (r - 1) c.loop-rank.draft c.loop-rank.invariant r c.found-found.result c.in-Some.chosen c.place.new.self (omega (arith, c.loop-rank.auto.rank)) here c.found-found.ensures.value c.in-Some.is c.place.ensures in
+    let ended = going_all bound l r c.place.new.self next (omega (arith, c.len-rank-end.ensures)) in
     record { value = ended.value; drafted = ended.drafted; stuck = ended.stuck; few = ended.few }
 
 pub returns : goal.returns
