@@ -48,12 +48,12 @@ pub(crate) trait Gather {
 
 // An end record: where it stands, and how many rows it counts.
 #[derive(Clone, Copy)]
-pub(crate) struct End {
+pub(crate) struct EndRecord {
     at: usize,
     count: u16,
 }
 
-impl End {
+impl EndRecord {
     // What is wrong with a file in which rows are missing.
     pub(crate) fn too_early(self) -> ByteFault
         ensures { result ≡ WrongCount self.at }
@@ -77,7 +77,10 @@ impl End {
 }
 
 // Gathers the rows that a file says into what has none yet, up to the end record, and answers that.
-pub(crate) fn gather_rows<G: Gather>(bytes: &[u8], into: &mut G) -> Result<End, FileFault<G::Fault>>
+pub(crate) fn gather_rows<G: Gather>(
+    bytes: &[u8],
+    into: &mut G,
+) -> Result<EndRecord, FileFault<G::Fault>>
     requires { G.rows into.old ≡ [] }
     ensures ends { MatchResult result (λ e. (e.at ≤ length bytes.now) × Ends (G.rules into.old) bytes.now (G.rows into.new) e.at e.count) (λ f. decoded_by (G.rules into.old) bytes.now ≡ Err f) }
     ensures same { G.same_but_rows into.old into.new }
@@ -90,7 +93,7 @@ pub(crate) fn gather_rows<G: Gather>(bytes: &[u8], into: &mut G) -> Result<End, 
     while let Some((at, record)) = reader.next()? {
         match record {
             Record::Note(_) => {}
-            Record::End(count) => return Ok(End { at, count }),
+            Record::End(count) => return Ok(EndRecord { at, count }),
             _ => into.add_record(at as u64, record)?,
         }
     }
