@@ -29,7 +29,7 @@ fn any_name(rt: HostRuntime) -> Result<(), Fail> {
         b"\xa7\x5e\x02\x00\xa7\x5e\x01\x07\x01\x00\x02\x00\x09\x00\xff\xa7\x5e\x02\x00\xa7\x5e\x03\x02\x00\x01",
         &mut list,
     )?;
-    let listed = list.task(0).ok_or(Fail::new("not listed"))?;
+    let listed = list.task(0).ok_or_else(|| Fail::new("not listed"))?;
     assert!(rt; listed.name.bytes() == b"\x00\xff".as_slice());
     Ok(())
 }
@@ -92,7 +92,7 @@ fn noted_file(rt: HostRuntime) -> Result<(), Fail> {
     let mut list = OpenList::new().close();
     read_list(&file, &mut list)?;
     assert_eq!(rt; list.len(), 1);
-    let listed = list.task(0).ok_or(Fail::new("not listed"))?;
+    let listed = list.task(0).ok_or_else(|| Fail::new("not listed"))?;
     assert!(rt;
         listed.name.bytes()
             == b"\x00\x01\x02\x03\x04\x05\x06\x07\x80\xa7\x5e\xfb\xfc\xfd\xfe\xff".as_slice()

@@ -12,9 +12,21 @@ fn limits(rt: HostRuntime) -> Result<(), Fail> {
     is_refused(&rt, list.add(task(b"a", 2, 0, 0)), 6, Layer::Task, 1)?;
     is_refused(&rt, list.add(task(b"a", 1, 0, 0)), 7, Layer::Task, 1)?;
     is_refused(&rt, list.add(task(b"a", 1, 6, 5)), 8, Layer::Task, 1)?;
-    is_refused(&rt, list.add(task(b"a", 1, 60_001, 60_001)), 9, Layer::Task, 1)?;
+    is_refused(
+        &rt,
+        list.add(task(b"a", 1, 60_001, 60_001)),
+        9,
+        Layer::Task,
+        1,
+    )?;
     is_refused(&rt, list.add(task(b"", 1, 1, 5)), 5, Layer::Task, 1)?;
-    is_refused(&rt, list.add(task(b"seventeen bytes!!", 1, 1, 5)), 5, Layer::Task, 1)?;
+    is_refused(
+        &rt,
+        list.add(task(b"seventeen bytes!!", 1, 1, 5)),
+        5,
+        Layer::Task,
+        1,
+    )?;
     assert_eq!(rt; list.add(task(b"sixteen bytes ok", 1, 5, 5))?, 1);
     assert_eq!(rt; list.close().len(), 2);
     Ok(())
@@ -25,7 +37,7 @@ fn reading(rt: HostRuntime) -> Result<(), Fail> {
     let mut open = OpenList::new();
     assert_eq!(rt; open.add(task(b"card", 1, 4, 50))?, 0);
     let list = open.close();
-    let listed = list.task(0).ok_or(Fail::new("not listed"))?;
+    let listed = list.task(0).ok_or_else(|| Fail::new("not listed"))?;
     assert!(rt; listed.name.bytes() == b"card".as_slice());
     assert_eq!(rt; listed.preference, Preference::Alap);
     assert_eq!(rt; listed.cost, 4);
@@ -41,7 +53,13 @@ fn full_list(rt: HostRuntime) -> Result<(), Fail> {
     for k in 0..32usize {
         assert_eq!(rt; list.add(task(b"a", 0, 1, 100))?, k);
     }
-    is_refused(&rt, list.add(task(b"seventeen bytes!!", 1, 1, 5)), 10, Layer::Task, 32)?;
+    is_refused(
+        &rt,
+        list.add(task(b"seventeen bytes!!", 1, 1, 5)),
+        10,
+        Layer::Task,
+        32,
+    )?;
     assert_eq!(rt; list.close().len(), 32);
     Ok(())
 }

@@ -27,7 +27,7 @@ fn by_rows(rt: HostRuntime) -> Result<(), Fail> {
     is_refused(&rt, rows.row(70, 1, row(1, 10)), 15, Layer::Plan, 70)?;
     rows.row(70, 1, row(1, 9))?;
     is_refused(&rt, rows.row(70, 2, row(1, 0)), 13, Layer::Plan, 70)?;
-    let plan = rows.close().ok_or(Fail::new("rows are missing"))?;
+    let plan = rows.close().ok_or_else(|| Fail::new("rows are missing"))?;
     assert_eq!(rt; plan.rank(0), Some(2));
     assert_eq!(rt; plan.hold(1), Some(9));
     // the card's response is 2, and 9 + 2 is above 10
@@ -46,7 +46,7 @@ fn longest_hold(rt: HostRuntime) -> Result<(), Fail> {
     let mut rows = OpenPlan::begin(&list);
     rows.row(0, 0, row(2, 0))?;
     rows.row(1, 1, row(1, 8))?;
-    let plan = rows.close().ok_or(Fail::new("rows are missing"))?;
+    let plan = rows.close().ok_or_else(|| Fail::new("rows are missing"))?;
     assert!(rt; plan.judge());
     assert!(rt; OpenPlan::begin(&list).close().is_none());
     Ok(())

@@ -1,132 +1,146 @@
--- Reading a list file record by record gives what the definition says: what is left of the run gives the whole run. Assumes nothing.
-use Rattle.std.proofs.Common.{◌≡◌, ℕ, zero, suc, ◌+◌, ◌-◌, ◌<◌, ◌≤◌, Bool, true, false, List, [], length, drop, Some, None, Ok, Err, Option, Result, sym, refl, ap, ◌∙◌, arith, length-drop}
+-- Reading a file record by record gives what the definition says: what is left of the run gives the whole run. Assumes nothing.
+use Rattle.std.proofs.Common.{◌≡◌, ℕ, zero, suc, ◌+◌, ◌-◌, ◌<◌, ◌≤◌, true, false, List, [], length, drop, Some, None, Ok, Err, Option, Result, sym, refl, ap, ◌∙◌, arith, length-drop}
 use Rattle.std.proofs.lemmas.Option.{MatchOption-at_some}
 use Rattle.std.proofs.lemmas.Bool.{lt-ltb, le-ltb, cond-true, cond-false}
-use Rattle.files.specs.Decoding.{takes, goes_on, decoded_from, decoded}
-use Rattle.files.specs.Format.{Said, view, is_end, head_fault, size, first}
+use Rattle.files.specs.Decoding.{Rules, closes, end_fault, takes, goes_on, decoded_from, decoded_by, Ends}
+use Rattle.files.specs.Format.{Said, end, view, is_end, head_fault, size, first}
 use Rattle.files.specs.Reading.{left, Begins, Shown, Nexts}
 use Rattle.files.specs.declared.fault.ByteFault.{ByteFault}
 use Rattle.files.specs.declared.fault.ByteFault.TheVariants.{TooLong, CutOff}
-use Rattle.files.specs.declared.fault.ListFault.{ListFault}
-use Rattle.files.specs.declared.fault.ListFault.TheVariants.{Bytes}
+use Rattle.files.specs.declared.fault.FileFault.{FileFault}
+use Rattle.files.specs.declared.fault.FileFault.TheVariants.{Bytes}
 use Rattle.files.specs.declared.reader.Reader.{Reader}
-use Rattle.files.specs.declared.record.FileKind.TheVariants.{List as ListFile}
+use Rattle.files.specs.declared.record.FileKind.{FileKind}
 use Rattle.files.specs.declared.record.Record.{Record}
+use Rattle.files.specs.declared.record.Record.TheVariants.{Task, Note, End, Plan}
 use Rattle.files.proofs.Heads.{within}
-use Rattle.tasks.specs.List.{Row, rows, opened}
-use Rattle.tasks.specs.declared.list.OpenList.{OpenList}
-
--- what is left to decode: nothing once the end record was read
-abbrev pub left_over : Bool → ℕ → List ℕ → ℕ → List Row → Result (List Row) ListFault
-left_over true n bs at rs = Ok rs
-left_over false n bs at rs = decoded_from n bs at rs
-
-taken_on : (e : Bool) (n : ℕ) (bs : List ℕ) (at : ℕ) (rs : List Row) → goes_on None (Ok rs) e (decoded_from n bs at) ≡ left_over e n bs at rs
-taken_on true n bs at rs = refl
-taken_on false n bs at rs = refl
-
--- one record that is taken
-pub turn : (n : ℕ) (bs : List ℕ) (at : ℕ) (rs new : List Row) (s : Said) → head_fault ListFile at (drop at bs) ≡ None → s ≡ first (drop at bs) → takes (length bs) at rs s ≡ Ok new → decoded_from (suc n) bs at rs ≡ left_over (is_end s) n bs (at + size (drop at bs)) new
-turn n bs at rs new s sound says taken =
-    (λ i. goes_on (sound i) (takes (length bs) at rs (sym says i)) (is_end (sym says i)) (decoded_from n bs (at + size (drop at bs))))
-    ∙ ap (λ t. goes_on None t (is_end s) (decoded_from n bs (at + size (drop at bs)))) taken
-    ∙ taken_on (is_end s) n bs (at + size (drop at bs)) new
-
--- one record that is refused
-refused : (n : ℕ) (bs : List ℕ) (at : ℕ) (rs : List Row) (s : Said) (f : ListFault) → head_fault ListFile at (drop at bs) ≡ None → s ≡ first (drop at bs) → takes (length bs) at rs s ≡ Err f → decoded_from (suc n) bs at rs ≡ Err f
-refused n bs at rs s f sound says taken =
-    (λ i. goes_on (sound i) (takes (length bs) at rs (sym says i)) (is_end (first (drop at bs))) (decoded_from n bs (at + size (drop at bs))))
-    ∙ ap (λ t. goes_on None t (is_end (first (drop at bs))) (decoded_from n bs (at + size (drop at bs)))) taken
-
-none_left : (bs : List ℕ) (at : ℕ) → length bs - at ≤ 0 → head_fault ListFile at (drop at bs) ≡ Some (CutOff at)
-none_left bs at h = simp (lt-ltb (length (drop at bs)) 4 (omega (arith, length-drop at bs)))
-
--- a record whose head is wrong
-faulty : (n : ℕ) (bs : List ℕ) (at : ℕ) (rs : List Row) (f : ByteFault) → length bs - at ≤ n → head_fault ListFile at (drop at bs) ≡ Some f → decoded_from n bs at rs ≡ Err (Bytes f)
-faulty zero bs at rs f enough e = let z = none_left bs at enough in cc
-faulty (suc n) bs at rs f enough e =
-    ap (λ o. goes_on o (takes (length bs) at rs (first (drop at bs))) (is_end (first (drop at bs))) (decoded_from n bs (at + size (drop at bs)))) e
-
--- the run of a reader over the file bs, with the tasks of an open list and their number so far
-pub record Going (bs : List ℕ) (r : Reader) (l : OpenList) (k : ℕ) : Type 0 where
-  pub file : r.bytes.now ≡ bs
-  pub kind : r.kind ≡ ListFile
-  pub count : k ≡ length (opened l)
-  pub turns : ℕ
-  pub enough : length bs - r.at ≤ turns
-  pub whole : left_over r.ended turns bs r.at (rows (opened l)) ≡ decoded bs
-
-pub starts : (bs : List ℕ) (r : Reader) (l : OpenList) → length bs ≤ 8192 → Begins r bs 0 ListFile → opened l ≡ [] → Going bs r l 0
-unfolding decoded
-starts bs r l few b none = record {
-  file = b.bytes;
-  kind = b.kind;
-  count = ap length (sym none);
-  turns = length bs;
-  enough = omega arith;
-  whole = (λ i. left_over (b.unended i) (length bs) bs (b.place i) (rows (none i))) ∙ sym (cond-false _ _ _ (le-ltb 8192 (length bs) few));
-}
-
--- what the reader shows of its own bytes, it shows of the file
-head_of : (bs : List ℕ) (r : Reader) (l : OpenList) (k : ℕ) (o : Option ByteFault) → Going bs r l k → head_fault r.kind r.at (left r) ≡ o → head_fault ListFile r.at (drop r.at bs) ≡ o
-head_of bs r l k o g e = (λ i. head_fault (sym g.kind i) r.at (drop r.at (sym g.file i))) ∙ e
-
-says_of : (bs : List ℕ) (r new : Reader) (l : OpenList) (k at : ℕ) (s : Said) → Going bs r l k → Shown r new at s → s ≡ first (drop r.at bs)
-says_of bs r new l k at s g h = h.says ∙ ap (λ xs. first (drop r.at xs)) g.file
-
-open_run : (bs : List ℕ) (r : Reader) (l : OpenList) (k : ℕ) (g : Going bs r l k) → r.ended ≡ false → decoded_from g.turns bs r.at (rows (opened l)) ≡ decoded bs
-open_run bs r l k g e = ap (λ b. left_over b g.turns bs r.at (rows (opened l))) (sym e) ∙ g.whole
-
-moved_of : (bs : List ℕ) (r new : Reader) (l : OpenList) (k at : ℕ) (s : Said) → Going bs r l k → Shown r new at s → new.at ≡ r.at + size (drop r.at bs)
-moved_of bs r new l k at s g h = h.moved ∙ ap (λ xs. r.at + size (drop r.at xs)) g.file
 
 -- a turn that is left can be spent
 pub spent : (n : ℕ) → 0 < n → (m : ℕ) × (n ≡ suc m)
 spent zero h = absurd (omega arith)
 spent (suc m) h = (m, refl)
 
-pub place_within : (bs : List ℕ) (r new : Reader) (l : OpenList) (k at : ℕ) (s : Said) → Going bs r l k → Shown r new at s → (at ≡ r.at) × (at + 4 ≤ length bs) × (new.at ≤ length bs) × (r.at + 4 ≤ new.at)
-place_within bs r new l k at s g h =
-    let w = within ListFile r.at bs (head_of bs r l k None g h.sound) in
-    let m = moved_of bs r new l k at s g h in
-    (h.place, omega (arith, h.place), omega arith, omega arith)
-
-pub turn_goes_on : (bs : List ℕ) (r new : Reader) (l l' : OpenList) (k k' at : ℕ) (s : Said) → Going bs r l k → Shown r new at s → (new.bytes.now ≡ r.bytes.now) × (new.kind ≡ r.kind) → takes (length bs) at (rows (opened l)) s ≡ Ok (rows (opened l')) → k' ≡ length (opened l') → Going bs new l' k'
-turn_goes_on bs r new l l' k k' at s g h same taken count =
-    let w = place_within bs r new l k at s g h in
-    let n = spent g.turns (omega (arith, g.enough)) in
-    record {
-      file = same.0 ∙ g.file;
-      kind = same.1 ∙ g.kind;
-      count = count;
-      turns = n.0;
-      enough = omega (arith, g.enough, n.1);
-      whole =
-          (λ i. left_over (h.ends i) n.0 bs (moved_of bs r new l k at s g h i) (rows (opened l')))
-          ∙ sym (turn n.0 bs r.at (rows (opened l)) (rows (opened l')) s (head_of bs r l k None g h.sound) (says_of bs r new l k at s g h) (ap (λ a. takes (length bs) a (rows (opened l)) s) (sym h.place) ∙ taken))
-          ∙ ap (λ m. decoded_from m bs r.at (rows (opened l))) (sym n.1)
-          ∙ open_run bs r l k g h.unended;
-    }
-
-pub head_refused : (bs : List ℕ) (r : Reader) (l : OpenList) (k : ℕ) (f : ByteFault) → Going bs r l k → r.ended ≡ false → head_fault r.kind r.at (left r) ≡ Some f → decoded bs ≡ Err (Bytes f)
-head_refused bs r l k f g unended e =
-    sym (open_run bs r l k g unended) ∙ faulty g.turns bs r.at (rows (opened l)) f g.enough (head_of bs r l k (Some f) g e)
-
-pub record_refused : (bs : List ℕ) (r new : Reader) (l : OpenList) (k at : ℕ) (s : Said) (f : ListFault) → Going bs r l k → Shown r new at s → takes (length bs) at (rows (opened l)) s ≡ Err f → decoded bs ≡ Err f
-record_refused bs r new l k at s f g h taken =
-    let w = place_within bs r new l k at s g h in
-    let n = spent g.turns (omega (arith, g.enough)) in
-    sym (open_run bs r l k g h.unended)
-    ∙ ap (λ m. decoded_from m bs r.at (rows (opened l))) n.1
-    ∙ refused n.0 bs r.at (rows (opened l)) s f (head_of bs r l k None g h.sound) (says_of bs r new l k at s g h) (ap (λ a. takes (length bs) a (rows (opened l)) s) (sym h.place) ∙ taken)
-
-pub comes_to : (bs : List ℕ) (r : Reader) (l : OpenList) (k : ℕ) → Going bs r l k → r.ended ≡ true → decoded bs ≡ Ok (rows (opened l))
-comes_to bs r l k g ended = sym g.whole ∙ ap (λ b. left_over b g.turns bs r.at (rows (opened l))) ended
-
-pub too_long : (bs : List ℕ) → 8192 < length bs → decoded bs ≡ Err (Bytes (TooLong (length bs)))
-unfolding decoded
-too_long bs h = cond-true _ _ _ (lt-ltb 8192 (length bs) h)
+none_left : (k : FileKind) (bs : List ℕ) (at : ℕ) → length bs - at ≤ 0 → head_fault k at (drop at bs) ≡ Some (CutOff at)
+none_left k bs at h = simp (lt-ltb (length (drop at bs)) 4 (omega (arith, length-drop at bs)))
 
 -- what the reader answered, taken apart
 pub shown_is : (old new : Reader) (o : Option (ℕ × Record)) (at : ℕ) (r : Record) → o ≡ Some (at, r) → Nexts old new (Ok o) → Shown old new at (view r)
 shown_is old new o at r e h = MatchOption-at_some _ _ (at, r) e h.answered
+
+-- a record that is neither a note nor the end record is not the last, and does what the rules say of it
+pub not_end : (x : Record) → ((b : _) → x ≡ Note b → ⊥) → ((n : ℕ) → x ≡ End n → ⊥) → is_end (view x) ≡ false
+not_end (Task r) n1 n2 = refl
+not_end (Note b) n1 n2 = absurd (n1 b refl)
+not_end (End n) n1 n2 = absurd (n2 n refl)
+not_end (Plan k r) n1 n2 = refl
+
+pub adds_only : {R F : Type 0} (g : Rules R F) (size at : ℕ) (rs : List R) (x : Record) → ((b : _) → x ≡ Note b → ⊥) → ((n : ℕ) → x ≡ End n → ⊥) → takes g size at rs (view x) ≡ g.adds at rs (view x)
+adds_only g size at rs (Task r) n1 n2 = refl
+adds_only g size at rs (Note b) n1 n2 = absurd (n1 b refl)
+adds_only g size at rs (End n) n1 n2 = absurd (n2 n refl)
+adds_only g size at rs (Plan k r) n1 n2 = refl
+
+module _ {R F : Type 0} (g : Rules R F) where
+  -- one record without a fault in its head
+  read_on : (n : ℕ) (bs : List ℕ) (at : ℕ) (rs : List R) (s : Said) → head_fault g.kind at (drop at bs) ≡ None → s ≡ first (drop at bs) → decoded_from g (suc n) bs at rs ≡ goes_on None (takes g (length bs) at rs s) (is_end s) (decoded_from g n bs (at + size (drop at bs)))
+  read_on n bs at rs s sound says =
+      λ i. goes_on (sound i) (takes g (length bs) at rs (sym says i)) (is_end (sym says i)) (decoded_from g n bs (at + size (drop at bs)))
+
+  -- one record that is taken, and is not the last
+  pub turn : (n : ℕ) (bs : List ℕ) (at : ℕ) (rs new : List R) (s : Said) → head_fault g.kind at (drop at bs) ≡ None → s ≡ first (drop at bs) → is_end s ≡ false → takes g (length bs) at rs s ≡ Ok new → decoded_from g (suc n) bs at rs ≡ decoded_from g n bs (at + size (drop at bs)) new
+  turn n bs at rs new s sound says more taken =
+      read_on n bs at rs s sound says ∙ (λ i. goes_on None (taken i) (more i) (decoded_from g n bs (at + size (drop at bs))))
+
+  -- the end record: what is read is what it leaves
+  closed : (o : Option ByteFault) (rs : List R) (more : List R → Result (List R) (FileFault F)) → goes_on None (closes o rs) true more ≡ closes o rs
+  closed None rs more = refl
+  closed (Some f) rs more = refl
+
+  pub last : (n : ℕ) (bs : List ℕ) (at : ℕ) (rs : List R) (k : ℕ) → head_fault g.kind at (drop at bs) ≡ None → end k ≡ first (drop at bs) → decoded_from g (suc n) bs at rs ≡ closes (end_fault (g.lacks rs) (length bs) at (length rs) k) rs
+  last n bs at rs k sound says = read_on n bs at rs (end k) sound says ∙ closed (end_fault (g.lacks rs) (length bs) at (length rs) k) rs _
+
+  -- a record whose head is wrong
+  faulty : (n : ℕ) (bs : List ℕ) (at : ℕ) (rs : List R) (f : ByteFault) → length bs - at ≤ n → head_fault g.kind at (drop at bs) ≡ Some f → decoded_from g n bs at rs ≡ Err (Bytes f)
+  faulty zero bs at rs f enough e = let z = none_left g.kind bs at enough in cc
+  faulty (suc n) bs at rs f enough e =
+      ap (λ o. goes_on o (takes g (length bs) at rs (first (drop at bs))) (is_end (first (drop at bs))) (decoded_from g n bs (at + size (drop at bs)))) e
+
+  -- the run of a reader over the file bs, before its end record, with the rows so far
+  pub record Going (bs : List ℕ) (r : Reader) (rs : List R) : Type 0 where
+    pub file : r.bytes.now ≡ bs
+    pub kind : r.kind ≡ g.kind
+    pub unended : r.ended ≡ false
+    pub turns : ℕ
+    pub enough : length bs - r.at ≤ turns
+    pub whole : decoded_from g turns bs r.at rs ≡ decoded_by g bs
+
+  pub starts : (bs : List ℕ) (r : Reader) (k : FileKind) (rs : List R) → length bs ≤ 8192 → Begins r bs 0 k → k ≡ g.kind → rs ≡ [] → Going bs r rs
+  unfolding decoded_by
+  starts bs r k rs few b kind none = record {
+    file = b.bytes;
+    kind = b.kind ∙ kind;
+    unended = b.unended;
+    turns = length bs;
+    enough = omega arith;
+    whole = (λ i. decoded_from g (length bs) bs (b.place i) (none i)) ∙ sym (cond-false _ _ _ (le-ltb 8192 (length bs) few));
+  }
+
+  -- what the reader shows of its own bytes, it shows of the file
+  head_of : (bs : List ℕ) (r : Reader) (rs : List R) (o : Option ByteFault) → Going bs r rs → head_fault r.kind r.at (left r) ≡ o → head_fault g.kind r.at (drop r.at bs) ≡ o
+  head_of bs r rs o w e = (λ i. head_fault (sym w.kind i) r.at (drop r.at (sym w.file i))) ∙ e
+
+  says_of : (bs : List ℕ) (r new : Reader) (rs : List R) (at : ℕ) (s : Said) → Going bs r rs → Shown r new at s → s ≡ first (drop r.at bs)
+  says_of bs r new rs at s w h = h.says ∙ ap (λ xs. first (drop r.at xs)) w.file
+
+  moved_of : (bs : List ℕ) (r new : Reader) (rs : List R) (at : ℕ) (s : Said) → Going bs r rs → Shown r new at s → new.at ≡ r.at + size (drop r.at bs)
+  moved_of bs r new rs at s w h = h.moved ∙ ap (λ xs. r.at + size (drop r.at xs)) w.file
+
+  pub place_within : (bs : List ℕ) (r new : Reader) (rs : List R) (at : ℕ) (s : Said) → Going bs r rs → Shown r new at s → (at ≡ r.at) × (at + 4 ≤ length bs) × (new.at ≤ length bs) × (r.at + 4 ≤ new.at)
+  place_within bs r new rs at s w h =
+      let inside = within g.kind r.at bs (head_of bs r rs None w h.sound) in
+      let m = moved_of bs r new rs at s w h in
+      (h.place, omega (arith, h.place), omega arith, omega arith)
+
+  -- the turn of this record
+  turn_of : (bs : List ℕ) (r new : Reader) (rs : List R) (at : ℕ) (s : Said) (w : Going bs r rs) → Shown r new at s → (n : ℕ) × (w.turns ≡ suc n)
+  turn_of bs r new rs at s w h = let inside = place_within bs r new rs at s w h in spent w.turns (omega (arith, w.enough))
+
+  pub going_on : (bs : List ℕ) (r new : Reader) (rs rs' : List R) (at : ℕ) (s : Said) → Going bs r rs → Shown r new at s → (new.bytes.now ≡ r.bytes.now) × (new.kind ≡ r.kind) → is_end s ≡ false → takes g (length bs) at rs s ≡ Ok rs' → Going bs new rs'
+  going_on bs r new rs rs' at s w h same more taken =
+      let inside = place_within bs r new rs at s w h in
+      let n = turn_of bs r new rs at s w h in
+      record {
+        file = same.0 ∙ w.file;
+        kind = same.1 ∙ w.kind;
+        unended = h.ends ∙ more;
+        turns = n.0;
+        enough = omega (arith, w.enough, n.1);
+        whole =
+            ap (λ a. decoded_from g n.0 bs a rs') (moved_of bs r new rs at s w h)
+            ∙ sym (turn n.0 bs r.at rs rs' s (head_of bs r rs None w h.sound) (says_of bs r new rs at s w h) more (ap (λ a. takes g (length bs) a rs s) (sym h.place) ∙ taken))
+            ∙ ap (λ m. decoded_from g m bs r.at rs) (sym n.1)
+            ∙ w.whole;
+      }
+
+  pub head_refused : (bs : List ℕ) (r : Reader) (rs : List R) (f : ByteFault) → Going bs r rs → head_fault r.kind r.at (left r) ≡ Some f → decoded_by g bs ≡ Err (Bytes f)
+  head_refused bs r rs f w e = sym w.whole ∙ faulty w.turns bs r.at rs f w.enough (head_of bs r rs (Some f) w e)
+
+  pub record_refused : (bs : List ℕ) (r new : Reader) (rs : List R) (at : ℕ) (s : Said) (f : FileFault F) → Going bs r rs → Shown r new at s → takes g (length bs) at rs s ≡ Err f → decoded_by g bs ≡ Err f
+  record_refused bs r new rs at s f w h taken =
+      let n = turn_of bs r new rs at s w h in
+      sym w.whole
+      ∙ ap (λ m. decoded_from g m bs r.at rs) n.1
+      ∙ read_on n.0 bs r.at rs s (head_of bs r rs None w h.sound) (says_of bs r new rs at s w h)
+      ∙ ap (λ t. goes_on None t (is_end s) (decoded_from g n.0 bs (r.at + size (drop r.at bs)))) (ap (λ a. takes g (length bs) a rs s) (sym h.place) ∙ taken)
+
+  pub ended : (bs : List ℕ) (r new : Reader) (rs : List R) (at k : ℕ) → Going bs r rs → Shown r new at (end k) → Ends g bs rs at k
+  ended bs r new rs at k w h =
+      let n = turn_of bs r new rs at (end k) w h in
+      sym w.whole
+      ∙ ap (λ m. decoded_from g m bs r.at rs) n.1
+      ∙ last n.0 bs r.at rs k (head_of bs r rs None w h.sound) (says_of bs r new rs at (end k) w h)
+      ∙ ap (λ a. closes (end_fault (g.lacks rs) (length bs) a (length rs) k) rs) (sym h.place)
+
+  pub too_long : (bs : List ℕ) → 8192 < length bs → decoded_by g bs ≡ Err (Bytes (TooLong (length bs)))
+  unfolding decoded_by
+  too_long bs h = cond-true _ _ _ (lt-ltb 8192 (length bs) h)

@@ -1,6 +1,6 @@
 -- What the head of a record tells: no fault where each of its checks passed, and each check passed where there is no fault. Assumes nothing.
-use Rattle.std.proofs.Common.{◌≡◌, ℕ, ◌+◌, ◌-◌, ◌≤◌, Bool, true, false, cond, eqb, List, length, get_or, take, drop, Some, None, Option, sym, refl, ap, ◌∙◌, arith, length-drop}
-use Rattle.std.proofs.lemmas.List.{take_rest, length-take-le}
+use Rattle.std.proofs.Common.{◌≡◌, ℕ, ◌+◌, ◌≤◌, Bool, true, false, cond, eqb, List, length, get_or, drop, Some, None, Option, sym, refl, ap, ◌∙◌, arith, length-drop}
+use Rattle.std.proofs.lemmas.List.{length-take-le}
 use Rattle.std.proofs.lemmas.Bool.{le-ltb, ltb-false, not-false, cond_both}
 use Rattle.std.proofs.lemmas.Bool.Decides.{nat_tests}
 use Rattle.files.specs.Format.{Said, head_fault, marked, kind_fits, length_fits, body, size, said, is_end}
@@ -39,9 +39,6 @@ sound f at bs e =
       whole = ltb-false _ _ g.0;
     }
 
-pub part_is : (bs : List ℕ) (n : ℕ) → take (n - 0) (take (length bs - 4) (drop 4 bs)) ≡ take n (drop 4 bs)
-part_is bs n = ap (λ xs. take (n - 0) xs) (take_rest bs 4) ∙ ap (λ k. take k (drop 4 bs)) (omega arith)
-
 pub length_body : (bs : List ℕ) → size bs ≤ length bs → length (body bs) ≡ get_or bs 3 0
 length_body bs h = length-take-le (get_or bs 3 0) (drop 4 bs) (omega (arith, length-drop 4 bs))
 
@@ -49,7 +46,7 @@ length_body bs h = length-take-le (get_or bs 3 0) (drop 4 bs) (omega (arith, len
 pub within : (f : FileKind) (at : ℕ) (bs : List ℕ) → head_fault f at (drop at bs) ≡ None → at + size (drop at bs) ≤ length bs
 within f at bs e = let s = sound f at (drop at bs) e in omega (arith, s.whole, s.long, length-drop at bs)
 
-pub ends_is : (k : ℕ) (b : List ℕ) → is_end (said k b) ≡ eqb k 3
+ends_is : (k : ℕ) (b : List ℕ) → is_end (said k b) ≡ eqb k 3
 ends_is k b =
     cond_both (eqb k 1) _ _ (λ s. is_end s ≡ eqb k 3) (λ e. grind (arith, nat_tests))
     (λ _. cond_both (eqb k 2) _ _ (λ s. is_end s ≡ eqb k 3) (λ e. grind (arith, nat_tests))
@@ -70,12 +67,6 @@ headed r k b rest e h = record {
 
 length_headed : (r : Reader) (k : ℕ) (b : List ℕ) → Headed r k b → length b ≡ get_or (left r) 3 0
 length_headed r k b h = ap length h.body_is ∙ length_body (left r) (sound r.kind r.at (left r) h.fault).whole
-
-pub body_fits : (r : Reader) (k : ℕ) (b : List ℕ) → Headed r k b → length_fits k (length b) ≡ true
-body_fits r k b h = (λ i. length_fits (h.kind i) (length_headed r k b h i)) ∙ (sound r.kind r.at (left r) h.fault).fits
-
-pub ends_within : (r : Reader) (k : ℕ) (b : List ℕ) → Headed r k b → (r.at + 4) + length b ≤ length r.bytes.now
-ends_within r k b h = omega (arith, length_headed r k b h, within r.kind r.at r.bytes.now h.fault)
 
 pub shows : (old new : Reader) (k : ℕ) (b : List ℕ) (s : Said) → old.ended ≡ false → Headed old k b → s ≡ said k b → new.at ≡ (old.at + 4) + length b → new.ended ≡ eqb k 3 → Shown old new old.at s
 shows old new k b s unended h says moved ends = record {

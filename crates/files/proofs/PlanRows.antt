@@ -1,71 +1,133 @@
--- The rows of a plan in the making, as a list: one more rank and hold are one more row at the end, a rank is used in the list
--- exactly if it is used below the count, and so the list finds the same faults as the open plan. Assumes nothing.
-use Rattle.std.proofs.Common.{◌≡◌, ℕ, zero, suc, ◌+◌, ◌<◌, ◌≤◌, Bool, true, false, cond, not, ◌&&◌, ◌||◌, eqb, ltb, leb, List, [], ◌∷◌, ◌++◌, length, get_or, take, set, Some, None, sym, refl, ap, ◌∙◌, add-one, arith}
-use Rattle.std.proofs.lemmas.List.{length-take-le, take_more, take_more_set}
-use Rattle.files.specs.PlanDecoding.{PlanRow, new_plan_row, rows_of, rows_below, open_rows, used_in, hold_fits, plan_row_fault}
-use Rattle.tasks.proofs.Reading.{listed_few}
-use Rattle.tasks.specs.List.{listed}
-use Rattle.planning.specs.Rows.{used_below, row_fault}
+-- The rows of a plan file: what was laid out of a row of a plan is read as it, a record that adds a row was laid out of it, and the rows of
+-- a plan keep the rules. Of its bytes it takes that they are below 256.
+use Rattle.std.proofs.Common.{◌≡◌, ℕ, zero, suc, ◌<◌, true, false, cond, not, ◌||◌, List, [], ◌∷◌, ◌++◌, map, length, get_or, Some, None, Ok, Err, Option, sym, refl, ap, ◌∙◌, arith, length-append}
+use Rattle.std.proofs.lemmas.List.{length-map, map-append, get_or_at, get_or_append_left}
+use Rattle.std.proofs.lemmas.Bool.{le-leb, lt-ltb, le-ltb, eq-eqb, ne_eqb, and_from, and_parts, leb-true, eqb-true, not-false, true≢false}
+use Rattle.files.specs.Decoding.{unless, closes, end_fault, Ends}
+use Rattle.files.specs.Format.{Said, number, kind_fits, length_fits, said}
+use Rattle.files.specs.Format as format
+use Rattle.files.specs.Layout.{laid}
+use Rattle.files.specs.PlanFiles.{plan_adds, plan_rules, decoded_plan, row_body, row_record}
+use Rattle.files.specs.declared.fault.ByteFault.TheVariants.{WrongCount}
+use Rattle.files.specs.declared.fault.FileFault.TheVariants as fault
+use Rattle.files.specs.declared.record.FileKind.TheVariants.{Plan as PlanKind}
+use Rattle.files.proofs.Kept.{Bytes, says_plan, RowRecord, RowAdded, Kept}
+use Rattle.files.proofs.Laid.{two_bytes_back}
+use Rattle.files.proofs.LaidOut.{passed, high_back, low_back}
+use Rattle.tasks.specs.List.{listed, task_at}
+use Rattle.tasks.specs.declared.list.TaskList.{TaskList}
+use Rattle.tasks.specs.declared.task.Preference.{Preference}
+use Rattle.tasks.specs.declared.task.Preference.TheVariants.{Asap, Alap}
+use Rattle.planning.specs.Orders.{new_plan_row, ranks, KeepsRules}
+use Rattle.planning.specs.Plans.{list_of, open_rows, rows}
+use Rattle.planning.specs.Rows.{prompt_fits, used_in, next_fits, rank_fits, hold_fits, plan_row_fault}
+use Rattle.planning.specs.declared.fault.RowFault.{RowFault}
 use Rattle.planning.specs.declared.fault.RowFault.TheVariants.{WrongTask, WrongRank, WrongHold}
 use Rattle.planning.specs.declared.plan.OpenPlan.{OpenPlan}
+use Rattle.planning.specs.declared.plan.Plan.{Plan}
+use Rattle.planning.specs.declared.plan.Row.{Row}
 
-rows_push : (rs hs : List ℕ) (r h : ℕ) → length rs ≡ length hs → rows_of (rs ++ r ∷ []) (hs ++ h ∷ []) ≡ rows_of rs hs ++ new_plan_row r h ∷ []
-rows_push [] [] r h e = refl
-rows_push [] (y ∷ ys) r h e = absurd (omega arith)
-rows_push (x ∷ xs) [] r h e = absurd (omega arith)
-rows_push (x ∷ xs) (y ∷ ys) r h e = ap (λ zs. new_plan_row x y ∷ zs) (rows_push xs ys r h (omega arith))
+pub plan_keeps : (p : Plan) → KeepsRules (list_of p) (rows p)
+plan_keeps p = record { all = p.full; keep = p.made.keep }
 
-rows_length : (rs hs : List ℕ) → length rs ≡ length hs → length (rows_of rs hs) ≡ length rs
-rows_length [] hs e = refl
-rows_length (x ∷ xs) [] e = absurd (omega arith)
-rows_length (x ∷ xs) (y ∷ ys) e = ap suc (rows_length xs ys (omega arith))
+-- ---- one of the rows
 
-pub same_length : (m : ℕ) (rs hs : List ℕ) → m ≤ length rs → m ≤ length hs → length (take m rs) ≡ length (take m hs)
-same_length m rs hs a b = length-take-le m rs a ∙ sym (length-take-le m hs b)
+unused : (rs : List Row) (r : ℕ) → ((k : ℕ) → k < length rs → get_or (ranks rs) k 0 ≡ r → ⊥) → used_in rs r ≡ false
+unused [] r h = refl
+unused (x ∷ xs) r h = λ i. ne_eqb x.rank r (h 0 (omega arith)) i || unused xs r (λ k b e. h (suc k) (omega arith) e) i
 
-pub below_length : (m : ℕ) (rs hs : List ℕ) → m ≤ length rs → m ≤ length hs → length (rows_below m rs hs) ≡ m
-below_length m rs hs a b = rows_length (take m rs) (take m hs) (same_length m rs hs a b) ∙ length-take-le m rs a
+prompt_row_fits : (q : Preference) (h : ℕ) → (q ≡ Asap → h ≡ 0) → prompt_fits q h ≡ true
+prompt_row_fits Asap h f = eq-eqb h 0 (f refl)
+prompt_row_fits Alap h f = refl
 
-pub below_more : (m : ℕ) (rs hs : List ℕ) → m < length rs → m < length hs → rows_below (m + 1) rs hs ≡ rows_below m rs hs ++ new_plan_row (get_or rs m 0) (get_or hs m 0) ∷ []
-below_more m rs hs a b =
-    (λ i. rows_of (take_more rs m 0 a i) (take_more hs m 0 b i)) ∙ rows_push _ _ _ _ (same_length m rs hs (omega arith) (omega arith))
+-- what the list of a number of each row says of the row after rs
+here : (f : Row → ℕ) (rs : List Row) (q : Row) (qs : List Row) → get_or (map f (rs ++ q ∷ qs)) (length rs) 0 ≡ f q
+here f rs q qs = ap (λ xs. get_or xs (length rs) 0) (map-append f rs (q ∷ qs)) ∙ get_or_at (map f rs) (f q) (map f qs) 0 (length rs) (length-map rs f)
 
-pub below_set : (m : ℕ) (rs hs : List ℕ) (r h : ℕ) → m < length rs → m < length hs → rows_below (m + 1) (set rs m r) (set hs m h) ≡ rows_below m rs hs ++ new_plan_row r h ∷ []
-below_set m rs hs r h a b =
-    (λ i. rows_of (take_more_set rs m r a i) (take_more_set hs m h b i)) ∙ rows_push _ _ _ _ (same_length m rs hs (omega arith) (omega arith))
+before : (f : Row → ℕ) (rs qs : List Row) (k : ℕ) → k < length rs → get_or (map f (rs ++ qs)) k 0 ≡ get_or (map f rs) k 0
+before f rs qs k h = ap (λ xs. get_or xs k 0) (map-append f rs qs) ∙ get_or_append_left (map f rs) (map f qs) 0 k (omega (arith, length-map rs f))
 
--- ---- the ranks used so far
+row_fits : (l : TaskList) (rs : List Row) (q : Row) (qs : List Row) (at : ℕ) → KeepsRules l (rs ++ q ∷ qs) → plan_row_fault l rs at (length rs) q.rank q.hold ≡ None
+row_fits l rs q qs at g =
+    let k = length rs in
+    let some : k < length (rs ++ q ∷ qs) = omega (arith, length-append rs (q ∷ qs)) in
+    let rank = here (λ r. r.rank) rs q qs in
+    let hold = here (λ r. r.hold) rs q qs in
+    let ranked = g.keep.ranked k some in
+    let held = g.keep.held k some in
+    let next : next_fits l rs k ≡ true = and_from _ _ (eq-eqb k k refl) (lt-ltb k (length (listed l)) (omega (arith, g.all))) in
+    let free : used_in rs q.rank ≡ false = unused rs q.rank (λ j h e. let same = g.keep.apart j k (omega arith, some, before (λ r. r.rank) rs (q ∷ qs) j h ∙ e ∙ sym rank) in omega arith) in
+    let fits : rank_fits l rs q.rank ≡ true =
+    and_from _ _ (and_from _ _ (le-leb 1 q.rank (omega (arith, ranked.0))) (le-leb q.rank (length (listed l)) (omega (arith, ranked.1)))) (ap not free) in
+    let holds_well : hold_fits l k q.hold ≡ true =
+    and_from _ _ (lt-ltb q.hold (task_at l k).period (omega arith)) (prompt_row_fits (task_at l k).preference q.hold (λ e. sym hold ∙ g.keep.prompt k (some, e))) in
+    λ i. cond (not (next i)) (Some (WrongTask at)) (cond (not (fits i)) (Some (WrongRank at)) (cond (not (holds_well i)) (Some (WrongHold at)) None))
 
-swap : (a b c : Bool) → a || (b || c) ≡ b || (a || c)
-swap true true c = refl
-swap true false c = refl
-swap false true c = refl
-swap false false c = refl
+-- ---- the record of a row
 
-used_push : (xs : List PlanRow) (x : PlanRow) (r : ℕ) → used_in (xs ++ x ∷ []) r ≡ eqb x.rank r || used_in xs r
-used_push [] x r = refl
-used_push (y ∷ ys) x r = ap (λ b. eqb y.rank r || b) (used_push ys x r) ∙ swap (eqb y.rank r) (eqb x.rank r) (used_in ys r)
+row_record_of : (l : TaskList) (rs qs : List Row) (r : Row) (at : ℕ) → KeepsRules l (rs ++ r ∷ qs) → RowRecord (plan_rules l) row_record rs r at
+row_record_of l rs qs r at w =
+    let says : said 4 (row_body (length rs) r) ≡ format.plan (length rs) r.rank r.hold = λ i. format.plan (length rs) r.rank (two_bytes_back r.hold i) in
+    record {
+      kind = 4;
+      body = row_body (length rs) r;
+      laid_out = refl;
+      kind_ok = refl;
+      length_ok = refl;
+      says_row = says_plan _ _ _;
+      added = ap (plan_adds l at rs) says ∙ ap (λ o. unless o r rs) (row_fits l rs r qs at w);
+    }
 
-used_below_rows : (m : ℕ) (rs hs : List ℕ) (r : ℕ) → m ≤ length rs → m ≤ length hs → used_in (rows_below m rs hs) r ≡ used_below rs m r
-used_below_rows zero rs hs r a b = refl
-used_below_rows (suc m) rs hs r a b =
-    ap (λ k. used_in (rows_below k rs hs) r) (sym (add-one m))
-    ∙ ap (λ xs. used_in xs r) (below_more m rs hs (omega arith) (omega arith))
-    ∙ used_push (rows_below m rs hs) _ r
-    ∙ ap (λ t. eqb (get_or rs m 0) r || t) (used_below_rows m rs hs r (omega arith) (omega arith))
+-- the row that the body of a plan record says
+abbrev row_of : List ℕ → Row
+row_of b = new_plan_row (get_or b 1 0) (number (get_or b 2 0) (get_or b 3 0))
+
+row_back : (b : List ℕ) → Bytes b → length b ≡ 4 → b ≡ row_body (get_or b 0 0) (row_of b)
+row_back [] h l = absurd (omega arith)
+row_back (k ∷ []) h l = absurd (omega arith)
+row_back (k ∷ r ∷ []) h l = absurd (omega arith)
+row_back (k ∷ r ∷ c ∷ []) h l = absurd (omega arith)
+row_back (k ∷ r ∷ c ∷ d ∷ []) h l = λ i. k ∷ r ∷ high_back c d (h 3) i ∷ low_back c d (h 3) i ∷ []
+row_back (k ∷ r ∷ c ∷ d ∷ e ∷ xs) h l = absurd (omega arith)
+
+added : (o : Option RowFault) (r : Row) (rs mid : List Row) → unless o r rs ≡ Ok mid → (o ≡ None) × (mid ≡ rs ++ r ∷ [])
+added None r rs mid e = (refl, cc)
+added (Some f) r rs mid e = cc
+
+row_added : (l : TaskList) (rs mid : List Row) (k : ℕ) (b : List ℕ) (at : ℕ) → Bytes b → kind_fits PlanKind k ≡ true → length_fits k (length b) ≡ true → plan_adds l at rs (said k b) ≡ Ok mid → RowAdded row_record rs mid k b
+row_added l rs mid zero b at bytes kind fits e = absurd (true≢false (sym kind))
+row_added l rs mid (suc zero) b at bytes kind fits e = cc
+row_added l rs mid (suc (suc zero)) b at bytes kind fits e = cc
+row_added l rs mid (suc (suc (suc zero))) b at bytes kind fits e = cc
+row_added l rs mid (suc (suc (suc (suc zero)))) b at bytes kind fits e =
+    let t = added (plan_row_fault l rs at (get_or b 0 0) (get_or b 1 0) (number (get_or b 2 0) (get_or b 3 0))) (row_of b) rs mid e in
+    let next = and_parts _ _ (not-false _ (passed _ _ _ t.0).0) in
+    record {
+      row = row_of b;
+      rows = t.1;
+      laid_out = ap (laid 4) (row_back b bytes (eqb-true (length b) 4 fits) ∙ ap (λ k. row_body k (row_of b)) (eqb-true _ _ next.0));
+    }
+row_added l rs mid (suc (suc (suc (suc (suc k))))) b at bytes kind fits e = absurd (omega (arith, leb-true (suc (suc (suc (suc (suc k))))) 4 (and_parts _ _ kind).1))
+
+pub plan_kept : (l : TaskList) → Kept (plan_rules l) row_record (KeepsRules l)
+plan_kept l = record {
+  row_record = row_record_of l;
+  row_added = row_added l;
+  complete = λ rs w. le-ltb (length rs) (length (listed l)) (omega (arith, w.all));
+}
 
 -- ---- an open plan
 
-pub room : (p : OpenPlan) → (p.count ≤ length p.ranks) × (p.count ≤ length p.holds)
-room p = (omega (arith, p.few, listed_few p.list, p.sizes.0), omega (arith, p.few, listed_few p.list, p.sizes.1))
+-- the end record, where rows are missing
+pub rows_missing : (l : TaskList) (bs : List ℕ) (p : OpenPlan) (at n : ℕ) → p.list ≡ l → Ends (plan_rules l) bs (open_rows p) at n → length (open_rows p) < length (listed p.list) → decoded_plan l bs ≡ Err (fault.Bytes (WrongCount at))
+rows_missing l bs p at n same e missing =
+    let some : length (open_rows p) < length (listed l) = omega (arith, ap (λ x. length (listed x)) same) in
+    e ∙ ap (λ b. closes (end_fault b (length bs) at (length (open_rows p)) n) (open_rows p)) (lt-ltb (length (open_rows p)) (length (listed l)) some)
 
-pub rows_count : (p : OpenPlan) → length (open_rows p) ≡ p.count
-rows_count p = below_length p.count p.ranks p.holds (room p).0 (room p).1
-
-pub fault_agrees : (p : OpenPlan) (at k r h : ℕ) → plan_row_fault p.list (open_rows p) at k r h ≡ row_fault p at k r h
-fault_agrees p at k r h =
-    let n = length (listed p.list) in
-    let used = used_below_rows p.count p.ranks p.holds r (room p).0 (room p).1 in
-    λ i. cond (not (eqb k (rows_count p i) && ltb k n)) (Some (WrongTask at))
-    (cond (not (leb 1 r && leb r n && not (used i))) (Some (WrongRank at))
-    (cond (not (hold_fits p.list k h)) (Some (WrongHold at)) None))
+-- and where none is
+pub rows_whole : (l : TaskList) (bs : List ℕ) (p : OpenPlan) (q : Plan) (at n : ℕ) → p.list ≡ l → Ends (plan_rules l) bs (open_rows p) at n → (length (open_rows p) ≡ length (listed p.list)) × (q.made ≡ p) → decoded_plan l bs ≡ closes (end_fault false (length bs) at (length (listed l)) n) (rows q)
+rows_whole l bs p q at n same e c =
+    let all : length (open_rows p) ≡ length (listed l) = c.0 ∙ ap (λ x. length (listed x)) same in
+    e
+    ∙ ap (λ b. closes (end_fault b (length bs) at (length (open_rows p)) n) (open_rows p)) (le-ltb (length (open_rows p)) (length (listed l)) (omega arith))
+    ∙ (λ i. closes (end_fault false (length bs) at (all i) n) (open_rows (sym c.1 i)))

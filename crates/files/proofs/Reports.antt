@@ -1,28 +1,27 @@
 -- The report put together part by part is the report of the plan. Assumes nothing.
-use Rattle.std.proofs.Common.{◌≡◌, ℕ, ◌+◌, ◌<◌, cond, ltb, List, [], ◌∷◌, ◌++◌, Some, None, codes, decimal, Option, sym, ap, ◌∙◌, append_assoc, append-nil, add-one}
+use Rattle.std.proofs.Common.{◌≡◌, ℕ, ◌+◌, ◌<◌, cond, ltb, List, [], ◌∷◌, ◌++◌, length, get_or, None, codes, decimal, Option, sym, ap, ◌∙◌, append_assoc, append-nil, add-one, arith}
 use Rattle.std.proofs.lemmas.Bool.{cond-true, lt-ltb}
+use Rattle.std.proofs.lemmas.List.{get_or-map}
 use Rattle.analysis.specs.Response.{response}
-use Rattle.planning.specs.Plans.{size, rank_of, held_for, above}
+use Rattle.planning.specs.Orders.{new_plan_row, no_row}
+use Rattle.planning.specs.Plans.{list_of, rows, size, above}
 use Rattle.planning.specs.declared.plan.Plan.{Plan}
-use Rattle.files.specs.Report.{bound_text, report_line, lines_below, report}
+use Rattle.planning.specs.declared.plan.Row.{Row}
+use Rattle.files.specs.Report.{bound_text, line_of, report_line, lines_below, report}
 
-module _ (p : Plan) (k : ℕ) (h : k < size p) where
-  at_listed : {X : Type 0} (x y : X) → cond (ltb k (size p)) x y ≡ x
-  at_listed x y = cond-true (ltb k (size p)) x y (lt-ltb k (size p) h)
+pub line_is : (k : ℕ) (r : Row) (o : Option ℕ) (t t₁ t₂ t₃ t₄ : List ℕ) → t₁ ≡ t ++ (decimal k ++ 32 ∷ []) → t₂ ≡ t₁ ++ (decimal r.rank ++ 32 ∷ []) → t₃ ≡ t₂ ++ (bound_text o ++ 32 ∷ []) → t₄ ≡ t₃ ++ (decimal r.hold ++ 10 ∷ []) → t₄ ≡ t ++ line_of k r o
+unfolding line_of
+line_is k r o t t₁ t₂ t₃ t₄ e₁ e₂ e₃ e₄ =
+    e₄ ∙ ap (λ x. x ++ (decimal r.hold ++ 10 ∷ [])) (e₃ ∙ ap (λ x. x ++ (bound_text o ++ 32 ∷ [])) (e₂ ∙ ap (λ x. x ++ (decimal r.rank ++ 32 ∷ [])) e₁)) ∙ simp append_assoc
 
-  -- what is read of a listed task
-  pub read_some : (o : Option ℕ) (x y : ℕ) → o ≡ cond (ltb k (size p)) (Some y) None → o ≡ Some x → x ≡ y
-  read_some o x y e f = let both : Some x ≡ Some y = sym f ∙ e ∙ at_listed (Some y) None in cc
-
-  pub read_response : (o : Option ℕ) → o ≡ cond (ltb k (size p)) (response p.list (above p k) k) None → o ≡ response p.list (above p k) k
-  read_response o e = e ∙ at_listed (response p.list (above p k) k) None
-
-  pub line_is : (t t₁ t₂ t₃ t₄ : List ℕ) (rank hold : ℕ) (bound : Option ℕ) → rank ≡ rank_of p k → hold ≡ held_for p k → bound ≡ response p.list (above p k) k → t₁ ≡ t ++ (decimal k ++ 32 ∷ []) → t₂ ≡ t₁ ++ (decimal rank ++ 32 ∷ []) → t₃ ≡ t₂ ++ (bound_text bound ++ 32 ∷ []) → t₄ ≡ t₃ ++ (decimal hold ++ 10 ∷ []) → t₄ ≡ t ++ report_line p k
-  unfolding report_line
-  line_is t t₁ t₂ t₃ t₄ rank hold bound r o b e₁ e₂ e₃ e₄ =
-      let whole : t₄ ≡ ((t ++ (decimal k ++ 32 ∷ [])) ++ (decimal rank ++ 32 ∷ [])) ++ (bound_text bound ++ 32 ∷ []) ++ (decimal hold ++ 10 ∷ []) =
-      e₄ ∙ ap (λ x. x ++ (decimal hold ++ 10 ∷ [])) (e₃ ∙ ap (λ x. x ++ (bound_text bound ++ 32 ∷ [])) (e₂ ∙ ap (λ x. x ++ (decimal rank ++ 32 ∷ [])) e₁)) in
-      whole ∙ (λ i. ((t ++ (decimal k ++ 32 ∷ [])) ++ (decimal (r i) ++ 32 ∷ [])) ++ (bound_text (b i) ++ 32 ∷ []) ++ (decimal (o i) ++ 10 ∷ [])) ∙ simp append_assoc
+-- what a plan says of the task of its row number k
+pub line_read : (p : Plan) (k : ℕ) (rs : List Row) (o : Option ℕ) → rs ≡ rows p → k < length rs → o ≡ cond (ltb k (size p)) (response (list_of p) (above p k) k) None → line_of k (get_or rs k no_row) o ≡ report_line p k
+line_read p k rs o e h b =
+    let within : k < length (rows p) = omega (arith, ap length e) in
+    let rank = get_or-map (λ x. x.rank) (rows p) k no_row 0 within in
+    let hold = get_or-map (λ x. x.hold) (rows p) k no_row 0 within in
+    ap (λ xs. line_of k (get_or xs k no_row) o) e
+    ∙ (λ i. line_of k (new_plan_row (sym rank i) (sym hold i)) ((b ∙ cond-true _ _ _ (lt-ltb k (size p) (omega (arith, p.full)))) i))
 
 pub lines_none : (p : Plan) (head : List ℕ) → head ≡ head ++ lines_below p 0
 unfolding lines_below

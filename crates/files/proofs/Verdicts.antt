@@ -10,10 +10,9 @@ use Rattle.planning.specs.declared.fault.PlanFault.{PlanFault}
 use Rattle.planning.specs.declared.fault.PlanFault.TheVariants.{LeftOver}
 use Rattle.planning.specs.declared.fault.Tally.{Tally}
 use Rattle.planning.specs.declared.plan.Plan.{Plan}
-use Rattle.files.specs.Decoding.{decoded}
+use Rattle.files.specs.ListFiles.{decoded}
 use Rattle.files.specs.Faults.{list_refusal}
 use Rattle.files.specs.Program.{Verdict, planned, refused, OfList, OfBytes}
-use Rattle.files.specs.declared.fault.ListFault.{ListFault}
 
 -- an answer with a tally says that nothing is left over; a fault, that something is
 answered_ok : (t u : Tally) → Ok t ≡ answered u → (u.left ≡ 0) × (t ≡ u)
@@ -52,6 +51,3 @@ pub of_left : (bs : List ℕ) (l : TaskList) (f : PlanFault) → decoded bs ≡ 
 of_left bs l f e a =
     let s = answered_err f (tally (response l) l) a in
     of_list bs l (refused (plan_refusal f)) e (s.0, ap plan_refusal s.1)
-
-pub of_fault : (bs : List ℕ) (f : ListFault) → decoded bs ≡ Err f → OfBytes bs (refused (list_refusal f))
-of_fault bs f e = subst (λ d. MatchResult d (λ rs. (k : TaskList) × (rows (listed k) ≡ rs) × OfList k (refused (list_refusal f))) (λ g. refused (list_refusal f) ≡ refused (list_refusal g))) (sym e) refl

@@ -5,19 +5,24 @@
 --   is_end s             it is the end record
 --   number h l           the number with the high byte h and the low byte l
 --   marked bs            bs begins with the mark
---   kind_fits f k        a file f may have a record of kind k
---   length_fits k n      the body of a record of kind k may have n bytes
+--   kind_number k        the number that stands for the kind k
+--   Numbers n a          asking for the kind with the number n answers a: refused exactly if there is none
+--   kind_fits f k        a file f may have a record of kind number k
+--   length_fits k n      the body of a record of kind number k may have n bytes
 --   head_fault f at bs   what is wrong with the record that begins bs, if anything is: bs is a file of kind f from the place `at` on
 --   body bs, size bs     the body of the record that begins bs, and how many bytes the record takes
---   said k b             what a record of kind k with the body b says
+--   said k b             what a record of kind number k with the body b says
 --   first bs             what the record that begins bs says
-use Rattle.std.specs.Prelude.{ℕ, ◌+◌, ◌*◌, Bool, true, false, cond, not, ◌&&◌, List, length, take, drop, Some, None, Option, ◌==◌, nat_le, nat_lt, slice_index}
+use Rattle.std.specs.Prelude.{◌≡◌, ℕ, ◌+◌, ◌*◌, Bool, true, false, cond, not, ◌&&◌, List, length, take, drop, Some, None, Option, Result, MatchResult, ◌==◌, nat_le, nat_lt, slice_index}
 use Rattle.files.specs.declared.fault.ByteFault.{ByteFault}
 use Rattle.files.specs.declared.fault.ByteFault.TheVariants.{CutOff, WrongMark, WrongKind, WrongLength}
 use Rattle.files.specs.declared.record.FileKind.{FileKind}
 use Rattle.files.specs.declared.record.FileKind.TheVariants.{List as ListFile, Plan as PlanFile}
+use Rattle.files.specs.declared.record.Kind.{Kind}
+use Rattle.files.specs.declared.record.Kind.TheVariants as kind
 use Rattle.files.specs.declared.record.Record.{Record}
 use Rattle.files.specs.declared.record.Record.TheVariants.{Task, Note, End, Plan}
+use Rattle.files.specs.declared.record.UnknownKind.{UnknownKind}
 
 pub data Said : Type 0 where
   task : (preference cost period : ℕ) (name : List ℕ) → Said
@@ -26,10 +31,10 @@ pub data Said : Type 0 where
   plan : (task rank hold : ℕ) → Said
 
 abbrev pub view : Record → Said
-view (Task p c q n) = task p c q n.now
+view (Task r) = task r.preference r.cost r.period r.name.now
 view (Note b) = note b.now
 view (End n) = end n
-view (Plan t r h) = plan t r h
+view (Plan t r) = plan t r.rank r.hold
 
 abbrev pub is_end : Said → Bool
 is_end (task p c q n) = false
@@ -42,6 +47,15 @@ number h l = h * 256 + l
 
 abbrev pub marked : List ℕ → Bool
 marked bs = slice_index bs 0 == 0xa7 && slice_index bs 1 == 0x5e
+
+abbrev pub kind_number : Kind → ℕ
+kind_number kind.Task = 1
+kind_number kind.Note = 2
+kind_number kind.End = 3
+kind_number kind.Plan = 4
+
+abbrev pub Numbers : ℕ → Result Kind UnknownKind → Type 0
+Numbers n a = MatchResult a (λ k. n ≡ kind_number k) (λ _. (nat_le 1 n && nat_le n 4) ≡ false)
 
 abbrev pub kind_fits : FileKind → ℕ → Bool
 kind_fits ListFile k = nat_le 1 k && nat_le k 3

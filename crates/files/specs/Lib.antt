@@ -2,10 +2,11 @@ pub mod Faults
 pub mod Format
 pub mod Reading
 pub mod Decoding
-pub mod PlanDecoding
 pub mod Text
 pub mod Printing
 pub mod Layout
-pub mod PlanLayout
+pub mod ListFiles
+pub mod PlanFiles
 pub mod Report
 pub mod Program
+pub mod RowLaws

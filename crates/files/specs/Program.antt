@@ -18,7 +18,7 @@ use Rattle.planning.specs.Planning.{tally, Written}
 use Rattle.planning.specs.declared.fault.PlanFault.TheVariants.{LeftOver}
 use Rattle.planning.specs.declared.fault.Tally.{Tally}
 use Rattle.planning.specs.declared.plan.Plan.{Plan}
-use Rattle.files.specs.Decoding.{decoded}
+use Rattle.files.specs.ListFiles.{decoded}
 use Rattle.files.specs.Faults.{list_refusal}
 use Rattle.files.specs.Printing.{fault_line, over}
 use Rattle.files.specs.Report.{report}

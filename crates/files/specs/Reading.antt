@@ -9,18 +9,19 @@
 --   Nexts old new a      asking `old` for the next record answers a and leaves `new`
 use Rattle.std.specs.Prelude.{◌≡◌, ℕ, ◌+◌, true, false, List, drop, Some, None, Option, Result, MatchOption, MatchResult, slice_index}
 use Rattle.std.specs.Borrow.{Bor}
-use Rattle.files.specs.Format.{Said, view, is_end, head_fault, body, size, first}
+use Rattle.files.specs.Format.{Said, view, is_end, kind_number, head_fault, body, size, first}
 use Rattle.files.specs.declared.fault.ByteFault.{ByteFault}
 use Rattle.files.specs.declared.reader.Reader.{Reader}
 use Rattle.files.specs.declared.record.FileKind.{FileKind}
+use Rattle.files.specs.declared.record.Kind.{Kind}
 use Rattle.files.specs.declared.record.Record.{Record}
 
 abbrev pub left : Reader → List ℕ
 left r = drop r.at r.bytes.now
 
-abbrev pub ReadsHead : FileKind → ℕ → List ℕ → Result (ℕ × Bor (List ℕ)) ByteFault → Type 0
+abbrev pub ReadsHead : FileKind → ℕ → List ℕ → Result (Kind × Bor (List ℕ)) ByteFault → Type 0
 ReadsHead f at bs a =
-    MatchResult a (λ h. (head_fault f at bs ≡ None) × (h.0 ≡ slice_index bs 2) × (h.1.now ≡ body bs)) (λ e. head_fault f at bs ≡ Some e)
+    MatchResult a (λ h. (head_fault f at bs ≡ None) × (kind_number h.0 ≡ slice_index bs 2) × (h.1.now ≡ body bs)) (λ e. head_fault f at bs ≡ Some e)
 
 pub record Begins (r : Reader) (bs : List ℕ) (at : ℕ) (f : FileKind) : Type 0 where
   pub bytes : r.bytes.now ≡ bs

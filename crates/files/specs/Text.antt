@@ -1,8 +1,9 @@
 -- Bytes that are put together before they are written.
 --
 --   written t     the bytes that the text t has so far
-use Rattle.std.specs.Prelude.{ℕ, List, take}
+use Rattle.std.specs.Prelude.{ℕ, List}
+use Rattle.fixed.specs.FixedVec.{elements}
 use Rattle.files.specs.declared.text.Text.{Text}
 
 abbrev pub written : Text → List ℕ
-written t = take t.len t.bytes
+written t = elements t.bytes

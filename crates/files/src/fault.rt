@@ -17,16 +17,15 @@ pub enum ByteFault {
     ShortBuffer(u64),
 }
 
-// What is wrong with a list file: its bytes, or one of its tasks.
+// What is wrong with a file: its bytes, or one of its rows.
 #[derive(Clone, Copy, PartialEq, Eq, Debug)]
-pub enum ListFault {
+pub enum FileFault<F> {
     Bytes(ByteFault),
-    Task(TaskFault),
+    Row(F),
 }
 
-// What is wrong with a plan file: its bytes, or one of its rows.
-#[derive(Clone, Copy, PartialEq, Eq, Debug)]
-pub enum PlanFileFault {
-    Bytes(ByteFault),
-    Row(RowFault),
-}
+// What is wrong with a list file: its rows are tasks.
+pub type ListFault = FileFault<TaskFault>;
+
+// What is wrong with a plan file.
+pub type PlanFileFault = FileFault<RowFault>;

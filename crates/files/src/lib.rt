@@ -6,6 +6,8 @@
 #![tactic(auto)]
 
 pub mod fault;
+mod gather;
+mod lay;
 pub mod list_file;
 pub mod plan_file;
 pub mod print;

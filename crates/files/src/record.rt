@@ -1,19 +1,13 @@
 // Files and their records.
+use planning::plan::Row;
+use tasks::task::TaskRow;
+
 pub mod calls;
 
 // The two bytes that begin every record.
 pub(crate) const MARK_FIRST: u8 = 0xa7;
 
 pub(crate) const MARK_SECOND: u8 = 0x5e;
-
-// The kinds of records: a task, a note, the end record, a row of a plan.
-pub(crate) const TASK: u8 = 1;
-
-pub(crate) const NOTE: u8 = 2;
-
-pub(crate) const END: u8 = 3;
-
-pub(crate) const PLAN_ROW: u8 = 4;
 
 // What a file holds: a list of tasks, or a plan for one.
 #[derive(Clone, Copy, PartialEq, Eq, Debug)]
@@ -22,20 +16,24 @@ pub enum FileKind {
     Plan,
 }
 
+// The kinds of records, with their numbers: a task, a note, the end record, a row of a plan.
+#[derive(Clone, Copy, PartialEq, Eq, Debug)]
+pub(crate) enum Kind {
+    Task = 1,
+    Note = 2,
+    End = 3,
+    Plan = 4,
+}
+
+// A number that no kind of record has.
+#[derive(Clone, Copy, PartialEq, Eq, Debug)]
+pub(crate) struct UnknownKind;
+
 // A record, with what its body says; names and notes are borrowed from the file.
 #[derive(Clone, Copy)]
 pub enum Record<'a> {
-    Task {
-        preference: u8,
-        cost: u16,
-        period: u16,
-        name: &'a [u8],
-    },
+    Task(TaskRow<'a>),
     Note(&'a [u8]),
     End(u16),
-    Plan {
-        task: u8,
-        rank: u8,
-        hold: u16,
-    },
+    Plan { task: u8, row: Row },
 }

@@ -1,13 +1,12 @@
 // The printed report of a plan.
 ghost use Rattle.std.specs.Prelude.{◌≡◌, ◌+◌, ◌<◌, ◌≤◌, [], ◌∷◌, ◌++◌, length, codes, decimal};
 ghost use Rattle.files.specs.Printing.{Writes};
-ghost use Rattle.files.specs.Report.{bound_text, report_line, report};
+ghost use Rattle.files.specs.Report.{bound_text, line_of, report};
 ghost use Rattle.files.specs.Text.{written};
-ghost use Rattle.planning.specs.Plans.{size};
 
 use crate::fault::ByteFault;
 use crate::text::Text;
-use planning::plan::Plan;
+use planning::plan::{Plan, Row};
 
 // Puts a number and a byte behind it.
 fn push_number(text: &mut Text, n: u64, end: u8)
@@ -31,19 +30,16 @@ fn push_bound(text: &mut Text, bound: Option<u16>)
     }
 }
 
-// Puts the line of a listed task.
-fn push_line(text: &mut Text, plan: &Plan, task: usize)
-    requires listed { task < size plan.now }
-    requires room { length (written text.old) + 84 ≤ 4096 }
-    ensures bytes { written text.new ≡ written text.old ++ report_line plan.now task }
+// Puts the line of a task with its row and its bound.
+fn push_line(text: &mut Text, task: usize, row: &Row, bound: Option<u16>)
+    requires { length (written text.old) + 84 ≤ 4096 }
+    ensures bytes { written text.new ≡ written text.old ++ line_of task row.now bound }
     ensures longer { length (written text.new) ≤ length (written text.old) + 84 }
 {
-    let rank = plan.rank(task).unwrap();
-    let hold = plan.hold(task).unwrap();
     push_number(text, task as u64, b' ');
-    push_number(text, u64::from(rank), b' ');
-    push_bound(text, plan.response(task));
-    push_number(text, u64::from(hold), b'\n');
+    push_number(text, u64::from(row.rank), b' ');
+    push_bound(text, bound);
+    push_number(text, u64::from(row.hold), b'\n');
 }
 
 // Writes the report of a plan that was made with so many questions, and answers its length.
@@ -52,8 +48,8 @@ pub fn print_plan(plan: &Plan, questions: u32, out: &mut [u8]) -> Result<usize, 
 {
     let mut text = Text::new();
     text.push(b"task rank bound hold\n");
-    for task in 0..plan.list().len() {
-        push_line(&mut text, plan, task);
+    for (task, row) in plan.rows().iter().enumerate() {
+        push_line(&mut text, task, row, plan.response(task));
     }
     text.push(b"tests ");
     push_number(&mut text, u64::from(questions), b'\n');

@@ -5,10 +5,12 @@
 --   rank_fits l rs r              r is from 1 to the number of tasks, and none of the rows rs has it
 --   hold_fits l k h               h is below the deadline of task k, and 0 if that is ASAP
 --   plan_row_fault l rs at k r h  what is wrong with the row (k, r, h) after the rows rs, if anything is; the fault names the place `at`
---   RowTaken at k r p q a         taking the row r of task k turns the open plan p into q and answers a
+--   RowTaken at k r p q a         taking the row r of task k turns the open plan p into q and answers a; what stands behind the rows
+--                                 stays as it was
 --   Closed p o                    closing p gives o: none while rows are missing, and else the plan that p is
-use Rattle.std.specs.Prelude.{◌≡◌, ℕ, ◌<◌, Bool, true, false, cond, not, ◌&&◌, List, [], ◌∷◌, ◌++◌, length, is_ok, Some, None, Option, Result, MatchOption, MatchResult, ◌==◌, nat_le, nat_lt}
+use Rattle.std.specs.Prelude.{◌≡◌, ℕ, ◌<◌, Bool, true, false, cond, not, ◌&&◌, List, [], ◌∷◌, ◌++◌, length, drop, is_ok, Some, None, Option, Result, MatchOption, MatchResult, ◌==◌, nat_le, nat_lt}
 use Rattle.std.specs.List.{list_any}
+use Rattle.fixed.specs.FixedVec.{unused}
 use Rattle.tasks.specs.List.{listed, task_at}
 use Rattle.tasks.specs.declared.list.TaskList.{TaskList}
 use Rattle.tasks.specs.declared.task.Preference.{Preference}
@@ -47,6 +49,7 @@ pub record RowTaken (at k : ℕ) (r : Row) (p q : OpenPlan) (answer : Result (Un
   pub says : MatchResult answer (λ _. plan_row_fault p.list (open_rows p) at k r.rank r.hold ≡ None) (λ f. plan_row_fault p.list (open_rows p) at k r.rank r.hold ≡ Some f)
   pub list : q.list ≡ p.list
   pub rows : open_rows q ≡ cond (is_ok answer) (open_rows p ++ r ∷ []) (open_rows p)
+  pub behind : is_ok answer ≡ true → unused q.rows ≡ drop 1 (unused p.rows)
   pub untouched : is_ok answer ≡ false → q ≡ p
 
 abbrev pub Closed : OpenPlan → Option Plan → Type 0

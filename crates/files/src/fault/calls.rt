@@ -1,18 +1,16 @@
-// What the faults of files tell, and how the faults of the parts become those of a list file or of a plan file.
-ghost use Rattle.files.specs.Faults.{byte_refusal, list_refusal, plan_file_refusal};
-ghost use Rattle.files.specs.declared.fault.ListFault.TheVariants.{Bytes, Task};
-ghost use Rattle.files.specs.declared.fault.PlanFileFault.TheVariants.{Bytes as PlanBytes, Row};
+// What the faults of files tell, and how a fault of the bytes becomes one of a file.
+ghost use Rattle.files.specs.Faults.{byte_refusal, file_refusal};
+ghost use Rattle.files.specs.declared.fault.FileFault.TheVariants.{Bytes, Row};
 ghost use Rattle.std.specs.Prelude.{◌≡◌};
 
-use super::{ByteFault, ListFault, PlanFileFault};
+use super::{ByteFault, FileFault, ListFault, PlanFileFault};
 use planning::fault::RowFault;
-use tasks::fault::{Layer, Refusal, TaskFault};
+use tasks::fault::{Layer, Refusal, Refuses, TaskFault};
 
-impl ByteFault {
-    // Number, layer and place of the fault.
-    pub fn refusal(self) -> Refusal
-        ensures { result ≡ byte_refusal self }
-    {
+impl Refuses for ByteFault {
+    ghost told = { byte_refusal };
+
+    fn refusal(self) -> Refusal {
         let (number, place) = match self {
             ByteFault::TooLong(place) => (1, place),
             ByteFault::CutOff(place) => (2, place),
@@ -31,51 +29,31 @@ impl ByteFault {
     }
 }
 
-impl ListFault {
-    // Number, layer and place of the fault.
-    pub fn refusal(self) -> Refusal
-        ensures { result ≡ list_refusal self }
-    {
+impl<F: Refuses> Refuses for FileFault<F> {
+    ghost told = { file_refusal F.told };
+
+    fn refusal(self) -> Refusal {
         match self {
-            ListFault::Bytes(fault) => fault.refusal(),
-            ListFault::Task(fault) => fault.refusal(),
+            FileFault::Bytes(fault) => fault.refusal(),
+            FileFault::Row(fault) => fault.refusal(),
         }
     }
 }
 
-impl PlanFileFault {
-    // Number, layer and place of the fault.
-    pub fn refusal(self) -> Refusal
-        ensures { result ≡ plan_file_refusal self }
-    {
-        match self {
-            PlanFileFault::Bytes(fault) => fault.refusal(),
-            PlanFileFault::Row(fault) => fault.refusal(),
-        }
-    }
-}
-
-impl From<ByteFault> for ListFault {
+impl<F> From<ByteFault> for FileFault<F> {
     ghost from_gives = { λ f r. r ≡ Bytes f };
 
-    fn from(fault: ByteFault) -> ListFault {
-        ListFault::Bytes(fault)
+    fn from(fault: ByteFault) -> FileFault<F> {
+        FileFault::Bytes(fault)
     }
 }
 
+// One impl for every kind of row would also be one for faults of bytes, which have theirs.
 impl From<TaskFault> for ListFault {
-    ghost from_gives = { λ f r. r ≡ Task f };
+    ghost from_gives = { λ f r. r ≡ Row f };
 
     fn from(fault: TaskFault) -> ListFault {
-        ListFault::Task(fault)
-    }
-}
-
-impl From<ByteFault> for PlanFileFault {
-    ghost from_gives = { λ f r. r ≡ PlanBytes f };
-
-    fn from(fault: ByteFault) -> PlanFileFault {
-        PlanFileFault::Bytes(fault)
+        FileFault::Row(fault)
     }
 }
 
@@ -83,6 +61,6 @@ impl From<RowFault> for PlanFileFault {
     ghost from_gives = { λ f r. r ≡ Row f };
 
     fn from(fault: RowFault) -> PlanFileFault {
-        PlanFileFault::Row(fault)
+        FileFault::Row(fault)
     }
 }

@@ -11,14 +11,13 @@ use crate::report::print_plan;
 use planning::fault::{PlanFault, Tally};
 use planning::plan::Plan;
 use planning::plan::planner::plan_exact;
-use tasks::fault::Refusal;
+use tasks::fault::{Refusal, Refuses};
 use tasks::list::OpenList;
 
-impl Fault {
-    // Number, layer and place of the fault.
-    pub fn refusal(self) -> Refusal
-        ensures { result ≡ fault_refusal self }
-    {
+impl Refuses for Fault {
+    ghost told = { fault_refusal };
+
+    fn refusal(self) -> Refusal {
         match self {
             Fault::List(fault) => fault.refusal(),
             Fault::Plan(fault) => fault.refusal(),

@@ -4,30 +4,32 @@ ghost use Rattle.files.specs.Reading.{ReadsHead, Begins, Nexts};
 
 use super::Reader;
 use crate::fault::ByteFault;
-use crate::record::calls::length_fits;
-use crate::record::{END, FileKind, MARK_FIRST, MARK_SECOND, Record};
+use crate::record::{FileKind, Kind, MARK_FIRST, MARK_SECOND, Record};
 
 // The bytes from the place `at` on: none where it is past the end.
 fn rest_from(bytes: &[u8], at: usize) -> &[u8]
     ensures rest { result.now ≡ drop at bytes.now }
     ensures size { length bytes.now < 2 ^ 64 }
 {
-    if at < bytes.len() { &bytes[at..] } else { &[] }
+    bytes.get(at..).unwrap_or(&[])
 }
 
 // Kind and body of the record that begins these bytes, which stand at a place of a file.
-fn head(file: FileKind, place: u64, bytes: &[u8]) -> Result<(u8, &[u8]), ByteFault>
+fn head(file: FileKind, place: u64, bytes: &[u8]) -> Result<(Kind, &[u8]), ByteFault>
     ensures { ReadsHead file place bytes.now result }
 {
     match bytes {
         [first, second, _, _, ..] if *first != MARK_FIRST || *second != MARK_SECOND => {
             Err(ByteFault::WrongMark(place))
         }
-        [_, _, kind, _, ..] if !file.has(*kind) => Err(ByteFault::WrongKind(place)),
-        [_, _, kind, len, ..] if !length_fits(*kind, *len) => Err(ByteFault::WrongLength(place)),
-        [_, _, kind, len, rest @ ..] if usize::from(*len) <= rest.len() => {
-            Ok((*kind, &rest[0..*len as usize]))
-        }
+        [_, _, number, len, rest @ ..] => match file.kind(*number) {
+            None => Err(ByteFault::WrongKind(place)),
+            Some(kind) if !kind.takes(*len) => Err(ByteFault::WrongLength(place)),
+            Some(kind) if usize::from(*len) <= rest.len() => {
+                Ok((kind, &rest[..usize::from(*len)]))
+            }
+            Some(_) => Err(ByteFault::CutOff(place)),
+        },
         _ => Err(ByteFault::CutOff(place)),
     }
 }
@@ -62,7 +64,7 @@ impl<'a> Reader<'a> {
         let at = self.at;
         let (kind, body) = head(self.kind, at as u64, rest_from(self.bytes, at))?;
         self.at = at + 4 + body.len();
-        self.ended = kind == END;
+        self.ended = kind == Kind::End;
         Ok(Some((at, Record::with_body(kind, body))))
     }
 }

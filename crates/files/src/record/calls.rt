@@ -1,59 +1,82 @@
 // Which records a file may have, how long they are, and what their bodies say.
-ghost use Rattle.files.specs.Format.{kind_fits, length_fits as length_fits_of, number as number_of, said, view};
-ghost use Rattle.std.specs.Prelude.{◌≡◌, true, length};
+ghost use Rattle.files.specs.Format.{kind_number, kind_fits, length_fits, said, view, Numbers};
+ghost use Rattle.std.specs.Prelude.{◌≡◌, true, false, length, MatchOption};
 
-use super::{END, FileKind, NOTE, PLAN_ROW, Record, TASK};
+use super::{FileKind, Kind, Record, UnknownKind};
+use planning::plan::Row;
+use tasks::task::TaskRow;
 
-impl FileKind {
-    // Whether a file of this kind may have records of that kind.
-    pub(crate) fn has(self, kind: u8) -> bool
-        ensures { result ≡ kind_fits self kind }
-    {
-        match self {
-            FileKind::List => kind >= TASK && kind <= END,
-            FileKind::Plan => kind >= NOTE && kind <= PLAN_ROW,
+impl TryFrom<u8> for Kind {
+    type Error = UnknownKind;
+
+    ghost try_from_gives = { Numbers };
+
+    fn try_from(number: u8) -> Result<Kind, UnknownKind> {
+        match number {
+            1 => Ok(Kind::Task),
+            2 => Ok(Kind::Note),
+            3 => Ok(Kind::End),
+            4 => Ok(Kind::Plan),
+            _ => Err(UnknownKind),
         }
     }
 }
 
-// Whether the body of a record of this kind may have so many bytes.
-pub(crate) fn length_fits(kind: u8, len: u8) -> bool
-    ensures { result ≡ length_fits_of kind len }
-{
-    match kind {
-        TASK => len >= 6 && len <= 21,
-        NOTE => true,
-        END => len == 2,
-        _ => len == 4,
+impl From<Kind> for u8 {
+    ghost from_gives = { λ kind number. number ≡ kind_number kind };
+
+    fn from(kind: Kind) -> u8 {
+        kind as u8
     }
 }
 
-// The number with this high and this low byte.
-fn number(high: u8, low: u8) -> u16
-    ensures { result ≡ number_of high low }
-{
-    u16::from(high) * 256 + u16::from(low)
+impl Kind {
+    // Whether the body of such a record may have so many bytes.
+    pub(crate) fn takes(self, len: u8) -> bool
+        ensures { result ≡ length_fits (kind_number self) len }
+    {
+        match self {
+            Kind::Task => len >= 6 && len <= 21,
+            Kind::Note => true,
+            Kind::End => len == 2,
+            Kind::Plan => len == 4,
+        }
+    }
+}
+
+impl FileKind {
+    // The kind of record with this number, if a file of this kind may have such records.
+    pub(crate) fn kind(self, number: u8) -> Option<Kind>
+        ensures { MatchOption result (kind_fits self number ≡ false) (λ kind. (kind_fits self number ≡ true) × (number ≡ kind_number kind)) }
+    {
+        match (self, Kind::try_from(number).ok()?) {
+            (FileKind::List, Kind::Plan) | (FileKind::Plan, Kind::Task) => None,
+            (_, kind) => Some(kind),
+        }
+    }
 }
 
 impl<'a> Record<'a> {
     // The record of this kind with this body.
-    pub(crate) fn with_body(kind: u8, body: &'a [u8]) -> Record<'a>
-        requires { length_fits_of kind (length body.now) ≡ true }
-        ensures { view result ≡ said kind body.now }
+    pub(crate) fn with_body(kind: Kind, body: &'a [u8]) -> Record<'a>
+        requires { length_fits (kind_number kind) (length body.now) ≡ true }
+        ensures { view result ≡ said (kind_number kind) body.now }
     {
         match kind {
-            TASK => Record::Task {
-                preference: body[0],
-                cost: number(body[1], body[2]),
-                period: number(body[3], body[4]),
+            Kind::Task => Record::Task(TaskRow {
                 name: &body[5..],
-            },
-            NOTE => Record::Note(body),
-            END => Record::End(number(body[0], body[1])),
-            _ => Record::Plan {
+                preference: body[0],
+                cost: u16::from_be_bytes([body[1], body[2]]),
+                period: u16::from_be_bytes([body[3], body[4]]),
+            }),
+            Kind::Note => Record::Note(body),
+            Kind::End => Record::End(u16::from_be_bytes([body[0], body[1]])),
+            Kind::Plan => Record::Plan {
                 task: body[0],
-                rank: body[1],
-                hold: number(body[2], body[3]),
+                row: Row {
+                    rank: body[1],
+                    hold: u16::from_be_bytes([body[2], body[3]]),
+                },
             },
         }
     }

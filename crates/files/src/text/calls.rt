@@ -3,8 +3,10 @@ ghost use Rattle.std.specs.Prelude.{◌≡◌, ◌+◌, ◌≤◌, [], ◌++◌,
 ghost use Rattle.files.specs.Printing.{Writes};
 ghost use Rattle.files.specs.Text.{written};
 
-use super::{MAX_TEXT, Text};
+use super::Text;
 use crate::fault::ByteFault;
+use fixed::fixed_vec::FixedVec;
+use itoa::Buffer;
 
 impl Text {
     // A text with no bytes.
@@ -12,8 +14,7 @@ impl Text {
         ensures { written result ≡ [] }
     {
         Text {
-            bytes: [0u8; MAX_TEXT],
-            len: 0,
+            bytes: FixedVec::new(0),
         }
     }
 
@@ -23,32 +24,30 @@ impl Text {
         ensures bytes { written self.new ≡ written self.old ++ part.now }
         ensures longer { length (written self.new) ≡ length (written self.old) + length part.now }
     {
-        let end = self.len + part.len();
-        self.bytes[self.len..end].copy_from_slice(part);
-        self.len = end;
+        self.bytes.extend_from_slice(part).unwrap();
     }
 
-    // Puts the number behind what the text has, in decimal digits.
+    // Puts the number behind what the text has, in decimal digits. `write!` would do, but does not say that it succeeds where
+    // there is room.
+    #[tactic(auto, using(crate::proofs::Texts::decimal_short))]
     pub(crate) fn push_number(&mut self, n: u64)
-        requires { length (written self.old) + length (decimal n) ≤ 4096 }
+        requires { length (written self.old) + 20 ≤ 4096 }
         ensures bytes { written self.new ≡ written self.old ++ decimal n }
-        ensures longer { length (written self.new) ≡ length (written self.old) + length (decimal n) }
+        ensures longer { length (written self.new) ≤ length (written self.old) + 20 }
     {
-        if n >= 10 {
-            self.push_number(n / 10);
-        }
-        self.push(&[48 + (n % 10) as u8]);
+        self.push(Buffer::new().format(n).as_bytes());
     }
 
     // Writes the text into the buffer and answers its length. Refused, with nothing written, exactly if the buffer is shorter.
     pub(crate) fn copy_to(&self, out: &mut [u8]) -> Result<usize, ByteFault>
         ensures { Writes (written self.now) out.old out.new result }
     {
-        let len = self.len;
+        let text = self.bytes.as_slice();
+        let len = text.len();
         if out.len() < len {
             return Err(ByteFault::ShortBuffer(out.len() as u64));
         }
-        out[0..len].copy_from_slice(&self.bytes[0..len]);
+        out[..len].copy_from_slice(text);
         Ok(len)
     }
 }

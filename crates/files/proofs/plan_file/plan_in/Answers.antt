@@ -1,47 +1,42 @@
-use Rattle.std.proofs.Common.{length, sym, ap, ◌∙◌, arith}
+use Rattle.std.proofs.Common.{◌≡◌, false, length, Err, sym, ap, ◌∙◌, subst}
 use Rattle.std.proofs.lemmas.Result.{err_from_is_err_and}
-use Rattle.files.specs.Format.{view}
-use Rattle.files.specs.Reading.{Shown}
-use Rattle.tasks.specs.List.{listed}
-use Rattle.files.proofs.Decodes.{shown_is}
-use Rattle.files.proofs.PlanDecodes.{starts, turn_goes_on, place_within, head_refused, record_refused, too_long}
+use Rattle.files.specs.Decoding.{end_fault, closes, Ends}
+use Rattle.files.specs.PlanFiles.{plan_rules}
+use Rattle.planning.specs.Plans.{open_rows, rows}
+use Rattle.files.specs.declared.fault.FileFault.TheVariants.{Bytes}
+use Rattle.files.proofs.PlanRows.{rows_missing, rows_whole}
+use Rattle.tasks.specs.declared.list.TaskList.{TaskList}
 use Rattle.files.proofs.plan_file.plan_in.Goals as goal
-use Rattle.files.proofs.plan_file.plan_in.Goals.{In-Some}
+use Rattle.files.proofs.plan_file.plan_in.Goals.{In_ok-end}
 
--- the record of this turn
-shown : (c : goal.In-Some) → Shown c.loop-at.reader c.next.new.self c.in-Some.at (view c.in-Some.record)
-shown c = shown_is c.loop-at.reader c.next.new.self c.in_ok-at.field-0 c.in-Some.at c.in-Some.record c.in-Some.is c.in_ok-at.ensures
+-- the rows before the end record, by the list that was lent
+ends : (c : In_ok-end) → Ends (plan_rules c.args.list.now) c.args.bytes.now (open_rows c.gather_rows.new.into) c.in_ok-end.end.at c.in_ok-end.end.count
+ends c =
+    subst (λ (l : TaskList). Ends (plan_rules l) c.args.bytes.now (open_rows c.gather_rows.new.into) c.in_ok-end.end.at c.in_ok-end.end.count) c.begin-open.ensures.list c.in_ok-end.ensures.ends.1
 
-pub returns-then-size-gt-MAX_FILE : goal.returns-then-size-gt-MAX_FILE
-returns-then-size-gt-MAX_FILE c = too_long c.args.list.now c.args.bytes.now (omega arith)
+same : (c : In_ok-end) → c.gather_rows.new.into.list ≡ c.args.list.now
+same c = c.in_ok-end.ensures.same ∙ c.begin-open.ensures.list
 
-pub loop-at-init : goal.loop-at-init
-loop-at-init c =
-    starts c.args.list.now c.args.bytes.now c.new-reader.result c.begin-open.result (omega arith) c.new-reader.ensures c.begin-open.ensures.list c.begin-open.ensures.empty
+pub returns-in_default : goal.returns-in_default
+returns-in_default c =
+    let at = (goal.at.returns-in_default c).In_ok-end in
+    rows_missing c.args.list.now c.args.bytes.now c.gather_rows.new.into _ _ (same at) (ends at) c.in_default.ensures ∙ ap (λ f. Err (Bytes f)) (sym c.too_early.ensures)
 
-pub returns-in_err-at : goal.returns-in_err-at
-returns-in_err-at c =
-    let p = err_from_is_err_and c.from_residual.result c.from_residual.ensures.1 in
-    let h = c.in_err-at.ensures.answered in
-    rw (p.1, p.2) (head_refused _ _ c.loop-at.reader _ _ c.in_err-at.field-0.0 c.loop-at.invariant h.unended h.fault)
+pub returns-in_err-check : goal.returns-in_err-check
+returns-in_err-check c =
+    let at = (goal.at.returns-in_err-check c).In_ok-end in
+    let p = err_from_is_err_and c.from_residual-in_err-check.result c.from_residual-in_err-check.ensures.1 in
+    rw (p.1, p.2) (
+    rows_whole c.args.list.now c.args.bytes.now c.gather_rows.new.into c.in-Some.plan _ _ (same at) (ends at) c.in-Some.ensures
+    ∙ ap (λ n. closes (end_fault false (length c.args.bytes.now) c.in_ok-end.end.at n c.in_ok-end.end.count) (rows c.in-Some.plan)) (sym c.len.ensures)
+    ∙ ap (λ o. closes o (rows c.in-Some.plan)) c.in_err-check.ensures
+    )
 
-pub take_row-requires : goal.take_row-requires
-take_row-requires c =
-    let w = place_within _ _ _ _ _ _ _ _ c.loop-at.invariant (shown (goal.at.take_row-requires c).In-Some) in
-    record { place = omega arith; count = c.loop-at.invariant.count; all = c.len-tasks.ensures ∙ ap (λ x. length (listed x)) (sym c.loop-at.invariant.list) }
-
-pub returns-in_err-rows : goal.returns-in_err-rows
-returns-in_err-rows c =
-    let p = err_from_is_err_and c.from_residual-in_err-rows.result c.from_residual-in_err-rows.ensures.1 in
-    let h = shown (goal.at.returns-in_err-rows c).In-Some in
-    rw (p.1, p.2) (record_refused _ _ c.loop-at.reader _ _ _ _ _ _ c.loop-at.invariant h c.in_err-rows.ensures)
-
-pub loop-at-smaller : goal.loop-at-smaller
-loop-at-smaller c =
-    let w = place_within _ _ _ _ _ _ _ _ c.loop-at.invariant (shown (goal.at.loop-at-smaller c).In-Some) in
-    omega arith
-
-pub loop-at-preserved : goal.loop-at-preserved
-loop-at-preserved c =
-    let h = shown (goal.at.loop-at-preserved c).In-Some in
-    turn_goes_on _ _ _ _ _ _ _ _ _ _ c.loop-at.invariant h c.in_ok-at.ensures.file c.in_ok-rows.ensures
+pub returns : goal.returns
+returns c =
+    let at = (goal.at.returns c).In_ok-end in (
+      rows_whole c.args.list.now c.args.bytes.now c.gather_rows.new.into c.in-Some.plan _ _ (same at) (ends at) c.in-Some.ensures
+          ∙ ap (λ n. closes (end_fault false (length c.args.bytes.now) c.in_ok-end.end.at n c.in_ok-end.end.count) (rows c.in-Some.plan)) (sym c.len.ensures)
+          ∙ ap (λ o. closes o (rows c.in-Some.plan)) c.in_ok-check.ensures,
+      ap (λ x. x.list) c.in-Some.ensures.1 ∙ same at,
+    )

@@ -1,25 +1,24 @@
-use Rattle.std.proofs.Common.{refl, arith}
-use Rattle.files.proofs.Heads.{Headed, headed, ends_within, shows, body_fits}
+use Rattle.std.proofs.Common.{◌≡◌, eqb, refl, ◌∙◌}
+use denote.Enum.Bare.{sameb}
+use Rattle.files.specs.Format.{kind_number}
+use Rattle.files.specs.contracts.record.Kind.{the_type}
+use Rattle.files.specs.declared.record.Kind.{Kind}
+use Rattle.files.specs.declared.record.Kind.TheVariants.{Task, Note, End, Plan}
+use Rattle.files.proofs.Heads.{headed, shows}
 use Rattle.files.proofs.reader.Reader.next.Goals as goal
-use Rattle.files.proofs.reader.Reader.next.Goals.{In_ok-kind}
 
--- what the head told, of the reader's own bytes
-read : (c : goal.In_ok-kind) → Headed c.args.self.now c.in_ok-kind.kind c.in_ok-kind.body.now
-read c =
-    headed c.args.self.now c.in_ok-kind.kind c.in_ok-kind.body.now c.rest_from.result.now c.rest_from.ensures.rest c.in_ok-kind.ensures
-
-pub overflow_add-self : goal.overflow_add-self
-overflow_add-self c = omega (arith, c.rest_from.ensures.size, ends_within _ _ _ (read (goal.at.overflow_add-self c).In_ok-kind))
-
-pub overflow_add-self-2 : goal.overflow_add-self-2
-overflow_add-self-2 c = omega (arith, c.rest_from.ensures.size, ends_within _ _ _ (read (goal.at.overflow_add-self-2 c).In_ok-kind))
-
-pub with_body-requires : goal.with_body-requires
-with_body-requires c = body_fits _ _ _ (read (goal.at.with_body-requires c).In_ok-kind)
+is_last : (k : Kind) → sameb the_type k End ≡ eqb (kind_number k) 3
+is_last Task = refl
+is_last Note = refl
+is_last End = refl
+is_last Plan = refl
 
 pub returns : goal.returns
-returns c = record {
-  file = (refl, refl);
-  answered =
-      shows c.args.self.now _ c.in_ok-kind.kind c.in_ok-kind.body.now _ c.if-self.false (read (goal.at.returns c).In_ok-kind) c.with_body.ensures refl refl;
-}
+returns c =
+    let kind = c.in_ok-kind.kind in
+    let read = headed c.args.self.now (kind_number kind) c.in_ok-kind.body.now c.rest_from.result.now c.rest_from.ensures.rest c.in_ok-kind.ensures in
+    record {
+      file = (refl, refl);
+      answered =
+          shows c.args.self.now _ (kind_number kind) c.in_ok-kind.body.now _ c.if-self.false read c.with_body.ensures refl (c.eq-self.ensures ∙ is_last kind);
+    }
