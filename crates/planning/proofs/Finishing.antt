@@ -56,13 +56,13 @@ module _ (bound : ℕ → ℕ → Option ℕ) (l : TaskList) (m : ℕ) (d : Draf
   pub finished_well : (k : ℕ) → k < length (listed l) → WellPlaced bound l d k
   finished_well k h = drafted.well k h (placed k)
 
-  pub finished_held : Sound bound l → Held l (length (listed l)) (holds d.rows)
+  finished_held : Sound bound l → Held l (length (listed l)) (holds d.rows)
   finished_held sound k h =
       let w = finished_well k h in
       let s = sound w.below k w.limit w.asked w.bounded in
       omega (arith, w.held, hold_limit (task_at l k).preference (deadline l (task_at l k) - w.limit), s, demand_some l w.below k w.limit, (task_at l k).limits)
 
-  pub finished_prompt : Prompt l (length (listed l)) (holds d.rows)
+  finished_prompt : Prompt l (length (listed l)) (holds d.rows)
   finished_prompt k e =
       let w = finished_well k e.0 in
       w.held ∙ ap (λ p. hold_by p (deadline l (task_at l k) - w.limit)) e.1
