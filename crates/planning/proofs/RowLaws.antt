@@ -1,20 +1,19 @@
 -- One more row keeps what the rows of a plan keep. Assumes nothing.
-use Rattle.std.proofs.Common.{◌≡◌, ℕ, zero, suc, ◌+◌, ◌<◌, ◌≤◌, Bool, true, false, not, ◌&&◌, ◌||◌, eqb, ltb, leb, List, [], ◌∷◌, ◌++◌, map, length, get_or, Ok, Err, Result, sym, refl, ap, ◌∙◌, subst, ⊎_elim, arith}
-use denote.Enum.Bare.{sameb}
+use Rattle.std.proofs.Common.{◌≡◌, ℕ, zero, suc, ◌+◌, ◌<◌, ◌≤◌, Bool, true, false, not, ◌&&◌, eqb, ltb, leb, List, [], ◌∷◌, ◌++◌, map, length, get_or, Ok, Err, Result, sym, ap, ◌∙◌, subst, ⊎_elim, arith}
 use Rattle.std.proofs.lemmas.List.{get_or_append_left, get_or_push, length-append, length-map, map_push}
-use Rattle.std.proofs.lemmas.Bool.{cases_eq, and_parts, not-true, or_parts, leb-true, ltb-true, eqb-true, eqb-false, lt-ltb, le-ltb}
+use Rattle.std.proofs.lemmas.Bool.{cases_eq, and_parts, not-true, or_parts, leb-true, ltb-true, eqb-true, eqb-false}
 use Rattle.fixed.specs.FixedVec.{elements, Appends}
 use Rattle.fixed.specs.declared.fixed_vec.FixedVec.{FixedVec}
 use Rattle.fixed.specs.declared.fixed_vec.Full.{Full}
+use Rattle.tasks.proofs.Reading.{read_is}
 use Rattle.tasks.specs.List.{listed, task_at}
 use Rattle.tasks.specs.declared.list.TaskList.{TaskList}
-use Rattle.tasks.specs.contracts.task.Preference.{the_type}
 use Rattle.tasks.specs.declared.task.Preference.{Preference}
 use Rattle.tasks.specs.declared.task.Preference.TheVariants.{Asap, Alap}
 use Rattle.tasks.specs.declared.task.Task.{Task}
 use Rattle.analysis.specs.Demand.{deadline}
 use Rattle.planning.specs.Orders.{ranks, Apart, RowsKeep}
-use Rattle.planning.specs.Rows.{used_in, rank_fits, prompt_fits, hold_fits}
+use Rattle.planning.specs.Rows.{used_in, may_hold, rank_fits, prompt_fits, hold_fits}
 use Rattle.planning.specs.declared.plan.Row.{Row}
 
 -- ---- the ranks used so far
@@ -84,22 +83,9 @@ keep_more l rs r old room rank hold =
       prompt = λ k e. part_more (λ x. x.hold) rs r (λ k v. (task_at l k).preference ≡ Asap → v ≡ 0) (λ j i a. old.prompt j (i, a)) (prompt_zero (task_at l (length rs)).preference r.hold parts.1) k e.0 e.1;
     }
 
-prompt_is : (q : Preference) (h : ℕ) → prompt_fits q h ≡ (sameb the_type q Alap || eqb h 0)
-prompt_is Asap h = refl
-prompt_is Alap h = refl
-
-module _ (l : TaskList) (k h : ℕ) (x : Task) (read : x ≡ task_at l k) where
-  hold_is : hold_fits l k h ≡ (ltb h x.period && (sameb the_type x.preference Alap || eqb h 0))
-  hold_is = ap (λ y. ltb h y.period && prompt_fits y.preference h) (sym read) ∙ ap (λ b. ltb h x.period && b) (prompt_is x.preference h)
-
-  pub hold_alap : (b : Bool) → h < x.period → b ≡ sameb the_type x.preference Alap → b ≡ true → b ≡ hold_fits l k h
-  hold_alap b s f t = t ∙ sym (hold_is ∙ (λ i. lt-ltb h x.period s i && ((sym f ∙ t) i || eqb h 0)))
-
-  pub hold_asap : (b : Bool) → h < x.period → b ≡ sameb the_type x.preference Alap → b ≡ false → eqb h 0 ≡ hold_fits l k h
-  hold_asap b s f t = sym (hold_is ∙ (λ i. lt-ltb h x.period s i && ((sym f ∙ t) i || eqb h 0)))
-
-  pub hold_late : x.period ≤ h → ltb h x.period ≡ hold_fits l k h
-  hold_late s = le-ltb h x.period s ∙ sym (hold_is ∙ (λ i. le-ltb h x.period s i && (sameb the_type x.preference Alap || eqb h 0)))
+-- what is told of the task that is read of the list at a listed number
+pub hold_read : (l : TaskList) (xs : List Task) (k h : ℕ) (x : Task) (b : Bool) → b ≡ may_hold l x h → x ≡ get_or xs k x → xs ≡ listed l → k < length (listed l) → b ≡ hold_fits l k h
+hold_read l xs k h x b e is same here = e ∙ ap (λ y. may_hold l y h) (is ∙ read_is l xs k x same here)
 
 -- ---- the vector of the rows
 

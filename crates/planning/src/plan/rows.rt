@@ -1,15 +1,14 @@
 // Making a plan row by row, by hand or from a file.
-ghost use Rattle.std.specs.Prelude.{◌≡◌, ◌<◌, [], length, replicate};
+ghost use Rattle.std.specs.Prelude.{◌≡◌, [], replicate};
 ghost use Rattle.planning.specs.Orders.{no_row};
 ghost use Rattle.planning.specs.Plans.{open_rows};
-ghost use Rattle.planning.specs.Rows.{used_in, rank_fits as rank_fits_of, hold_fits as hold_fits_of, RowTaken, Closed};
-ghost use Rattle.tasks.specs.List.{listed};
+ghost use Rattle.planning.specs.Rows.{used_in, rank_fits as rank_fits_of, may_hold as may_hold_of, RowTaken, Closed};
 
 use super::{OpenPlan, Plan, Row};
 use crate::fault::RowFault;
 use fixed::fixed_vec::FixedVec;
 use tasks::list::TaskList;
-use tasks::task::Preference;
+use tasks::task::{Preference, Task};
 
 impl OpenPlan {
     // A plan for the list, with no row yet.
@@ -38,12 +37,10 @@ impl OpenPlan {
         rank >= 1 && usize::from(rank) <= self.list.len() && !self.rank_used(rank)
     }
 
-    // Whether a listed task may have the hold: it is below the deadline, and an ASAP task is not held.
-    fn hold_fits(&self, task: usize, hold: u16) -> bool
-        requires { task < length (listed self.now.list) }
-        ensures { result ≡ hold_fits_of self.now.list task hold }
+    // Whether a task may have the hold: it is below the deadline, and an ASAP task is not held.
+    fn may_hold(&self, asked: Task, hold: u16) -> bool
+        ensures { result ≡ may_hold_of self.now.list asked hold }
     {
-        let asked = self.list.tasks()[task];
         hold < asked.period && (asked.preference == Preference::Alap || hold == 0)
     }
 
@@ -57,7 +54,7 @@ impl OpenPlan {
         if !self.rank_fits(row.rank) {
             return Err(RowFault::WrongRank(place));
         }
-        if !self.hold_fits(task, row.hold) {
+        if !self.may_hold(self.list.tasks()[task], row.hold) {
             return Err(RowFault::WrongHold(place));
         }
         self.rows.push(row).unwrap();
