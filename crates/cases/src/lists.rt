@@ -1,5 +1,5 @@
 // Adding tasks by hand.
-use crate::says::{is_refused, task};
+use crate::says::{is_refused, refusal, task};
 use std::test::Fail;
 use tasks::fault::Layer;
 use tasks::list::OpenList;
@@ -9,23 +9,35 @@ use tasks::task::Preference;
 fn limits(rt: HostRuntime) -> Result<(), Fail> {
     let mut list = OpenList::new();
     assert_eq!(rt; list.add(task(b"first", 0, 1, 60_000))?, 0);
-    is_refused(&rt, list.add(task(b"a", 2, 0, 0)), 6, Layer::Task, 1)?;
-    is_refused(&rt, list.add(task(b"a", 1, 0, 0)), 7, Layer::Task, 1)?;
-    is_refused(&rt, list.add(task(b"a", 1, 6, 5)), 8, Layer::Task, 1)?;
+    is_refused(
+        &rt,
+        list.add(task(b"a", 2, 0, 0)),
+        refusal(6, Layer::Task, 1),
+    )?;
+    is_refused(
+        &rt,
+        list.add(task(b"a", 1, 0, 0)),
+        refusal(7, Layer::Task, 1),
+    )?;
+    is_refused(
+        &rt,
+        list.add(task(b"a", 1, 6, 5)),
+        refusal(8, Layer::Task, 1),
+    )?;
     is_refused(
         &rt,
         list.add(task(b"a", 1, 60_001, 60_001)),
-        9,
-        Layer::Task,
-        1,
+        refusal(9, Layer::Task, 1),
     )?;
-    is_refused(&rt, list.add(task(b"", 1, 1, 5)), 5, Layer::Task, 1)?;
+    is_refused(
+        &rt,
+        list.add(task(b"", 1, 1, 5)),
+        refusal(5, Layer::Task, 1),
+    )?;
     is_refused(
         &rt,
         list.add(task(b"seventeen bytes!!", 1, 1, 5)),
-        5,
-        Layer::Task,
-        1,
+        refusal(5, Layer::Task, 1),
     )?;
     assert_eq!(rt; list.add(task(b"sixteen bytes ok", 1, 5, 5))?, 1);
     assert_eq!(rt; list.close().len(), 2);
@@ -56,9 +68,7 @@ fn full_list(rt: HostRuntime) -> Result<(), Fail> {
     is_refused(
         &rt,
         list.add(task(b"seventeen bytes!!", 1, 1, 5)),
-        10,
-        Layer::Task,
-        32,
+        refusal(10, Layer::Task, 32),
     )?;
     assert_eq!(rt; list.close().len(), 32);
     Ok(())

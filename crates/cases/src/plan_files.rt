@@ -1,12 +1,12 @@
 // Plan files, read and written.
-use crate::says::{is_refused, task};
+use crate::says::{is_refused, refusal, task};
 use files::list_file::read_list;
 use files::plan_file::{read_plan, write_plan};
 use planning::plan::Plan;
 use planning::plan::planner::plan_exact;
 use std::process::Abort;
 use std::test::Fail;
-use tasks::fault::Layer;
+use tasks::fault::{Layer, Refusal};
 use tasks::list::{OpenList, TaskList};
 
 const FOUR_TASKS: &[u8] =
@@ -36,16 +36,9 @@ fn four_tasks(rt: HostRuntime) -> Result<(), Fail> {
 }
 
 // The refusal of reading these bytes as a plan of the list; what was lent stays.
-fn refuses(
-    rt: &impl Abort,
-    bytes: &[u8],
-    list: &TaskList,
-    number: u8,
-    layer: Layer,
-    place: u64,
-) -> Result<(), Fail> {
+fn refuses(rt: &impl Abort, bytes: &[u8], list: &TaskList, expected: Refusal) -> Result<(), Fail> {
     let mut plan = Plan::empty();
-    is_refused(rt, read_plan(bytes, list, &mut plan), number, layer, place)?;
+    is_refused(rt, read_plan(bytes, list, &mut plan), expected)?;
     assert_eq!(rt; plan.list().len(), 0);
     Ok(())
 }
@@ -65,57 +58,43 @@ fn wrong_rows(rt: HostRuntime) -> Result<(), Fail> {
         &rt,
         b"\xa7\x5e\x04\x04\x01\x01\x00\x00",
         &list,
-        13,
-        Layer::Plan,
-        0,
+        refusal(13, Layer::Plan, 0),
     )?;
     refuses(
         &rt,
         b"\xa7\x5e\x02\x00\xa7\x5e\x04\x04\x00\x00\x00\x09",
         &list,
-        14,
-        Layer::Plan,
-        4,
+        refusal(14, Layer::Plan, 4),
     )?;
     refuses(
         &rt,
         b"\xa7\x5e\x04\x04\x00\x03\x00\x00",
         &list,
-        14,
-        Layer::Plan,
-        0,
+        refusal(14, Layer::Plan, 0),
     )?;
     refuses(
         &rt,
         b"\xa7\x5e\x04\x04\x00\x01\x00\x01",
         &list,
-        15,
-        Layer::Plan,
-        0,
+        refusal(15, Layer::Plan, 0),
     )?;
     refuses(
         &rt,
         b"\xa7\x5e\x04\x04\x00\x01\x00\x00\xa7\x5e\x04\x04\x01\x01\x00\x00",
         &list,
-        14,
-        Layer::Plan,
-        8,
+        refusal(14, Layer::Plan, 8),
     )?;
     refuses(
         &rt,
         b"\xa7\x5e\x04\x04\x00\x01\x00\x00\xa7\x5e\x04\x04\x01\x02\x00\x0a",
         &list,
-        15,
-        Layer::Plan,
-        8,
+        refusal(15, Layer::Plan, 8),
     )?;
     refuses(
         &rt,
         b"\xa7\x5e\x04\x04\x00\x01\x00\x00\xa7\x5e\x04\x04\x01\x02\x00\x00\xa7\x5e\x04\x04\x02\x01\x00\x00",
         &list,
-        13,
-        Layer::Plan,
-        16,
+        refusal(13, Layer::Plan, 16),
     )
 }
 
@@ -126,49 +105,37 @@ fn wrong_files(rt: HostRuntime) -> Result<(), Fail> {
         &rt,
         b"\xa7\x5e\x01\x06\x00\x00\x01\x00\x05a",
         &list,
-        4,
-        Layer::Bytes,
-        0,
+        refusal(4, Layer::Bytes, 0),
     )?;
     refuses(
         &rt,
         b"\xa7\x5e\x04\x03\x00\x01\x00",
         &list,
-        5,
-        Layer::Bytes,
-        0,
+        refusal(5, Layer::Bytes, 0),
     )?;
     refuses(
         &rt,
         b"\xa7\x5e\x04\x04\x00\x01\x00",
         &list,
-        2,
-        Layer::Bytes,
-        0,
+        refusal(2, Layer::Bytes, 0),
     )?;
     refuses(
         &rt,
         b"\xa7\x5e\x04\x04\x00\x01\x00\x00\xa7\x5e\x03\x02\x00\x01",
         &list,
-        11,
-        Layer::Bytes,
-        8,
+        refusal(11, Layer::Bytes, 8),
     )?;
     refuses(
         &rt,
         b"\xa7\x5e\x04\x04\x00\x01\x00\x00\xa7\x5e\x04\x04\x01\x02\x00\x00\xa7\x5e\x03\x02\x00\x03",
         &list,
-        11,
-        Layer::Bytes,
-        16,
+        refusal(11, Layer::Bytes, 16),
     )?;
     refuses(
         &rt,
         b"\xa7\x5e\x04\x04\x00\x01\x00\x00\xa7\x5e\x04\x04\x01\x02\x00\x00\xa7\x5e\x03\x02\x00\x02\x00",
         &list,
-        12,
-        Layer::Bytes,
-        22,
+        refusal(12, Layer::Bytes, 22),
     )?;
-    refuses(&rt, &[0u8; 8193], &list, 1, Layer::Bytes, 8193)
+    refuses(&rt, &[0u8; 8193], &list, refusal(1, Layer::Bytes, 8193))
 }

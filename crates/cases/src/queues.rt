@@ -1,5 +1,5 @@
 // Queues over lent memory.
-use crate::says::is_refused;
+use crate::says::{is_refused, refusal};
 use queue::entries::{Held, Ready};
 use queue::queue::Queue;
 use std::test::Fail;
@@ -24,7 +24,7 @@ fn held_jobs(rt: HostRuntime) -> Result<(), Fail> {
     queue.put(held(5, 9))?;
     queue.put(held(7, 1))?;
     queue.put(held(5, 9))?;
-    is_refused(&rt, queue.put(held(1, 1)), 22, Layer::Run, 4)?;
+    is_refused(&rt, queue.put(held(1, 1)), refusal(22, Layer::Run, 4))?;
     assert_eq!(rt; queue.len(), 4);
     assert_eq!(rt; queue.take_front(), Some(held(5, 9)));
     assert!(rt; queue.take_out(held(7, 2)));
@@ -54,11 +54,11 @@ fn ready_jobs(rt: HostRuntime) -> Result<(), Fail> {
 fn small_memory(rt: HostRuntime) -> Result<(), Fail> {
     let mut none: [Held; 0] = [];
     let mut empty = Queue::new(&mut none);
-    is_refused(&rt, empty.put(held(1, 1)), 22, Layer::Run, 0)?;
+    is_refused(&rt, empty.put(held(1, 1)), refusal(22, Layer::Run, 0))?;
     let mut one = [held(0, 0); 1];
     let mut single = Queue::new(&mut one);
     single.put(held(3, 3))?;
-    is_refused(&rt, single.put(held(2, 2)), 22, Layer::Run, 1)?;
+    is_refused(&rt, single.put(held(2, 2)), refusal(22, Layer::Run, 1))?;
     assert_eq!(rt; single.take_front(), Some(held(3, 3)));
     let mut two = [held(8, 0), held(4, 1)];
     let mut unsorted = Queue::holding(&mut two, 9);
@@ -76,7 +76,7 @@ fn filled_and_drained(rt: HostRuntime) -> Result<(), Fail> {
     for until in (0..32).rev() {
         queue.put(held(until, 0))?;
     }
-    is_refused(&rt, queue.put(held(0, 0)), 22, Layer::Run, 32)?;
+    is_refused(&rt, queue.put(held(0, 0)), refusal(22, Layer::Run, 32))?;
     for until in 0..32 {
         assert_eq!(rt; queue.take_front(), Some(held(until, 0)));
     }

@@ -1,5 +1,5 @@
 // Plans made row by row.
-use crate::says::{is_refused, task};
+use crate::says::{is_refused, refusal, task};
 use planning::plan::{OpenPlan, Row};
 use std::test::Fail;
 use tasks::fault::Layer;
@@ -17,16 +17,48 @@ fn by_rows(rt: HostRuntime) -> Result<(), Fail> {
     assert_eq!(rt; open.add(task(b"card", 1, 1, 10))?, 1);
     let list = open.close();
     let mut rows = OpenPlan::begin(&list);
-    is_refused(&rt, rows.row(70, 1, row(1, 0)), 13, Layer::Plan, 70)?;
-    is_refused(&rt, rows.row(70, 0, row(0, 0)), 14, Layer::Plan, 70)?;
-    is_refused(&rt, rows.row(70, 0, row(3, 0)), 14, Layer::Plan, 70)?;
-    is_refused(&rt, rows.row(70, 0, row(2, 1)), 15, Layer::Plan, 70)?;
+    is_refused(
+        &rt,
+        rows.row(70, 1, row(1, 0)),
+        refusal(13, Layer::Plan, 70),
+    )?;
+    is_refused(
+        &rt,
+        rows.row(70, 0, row(0, 0)),
+        refusal(14, Layer::Plan, 70),
+    )?;
+    is_refused(
+        &rt,
+        rows.row(70, 0, row(3, 0)),
+        refusal(14, Layer::Plan, 70),
+    )?;
+    is_refused(
+        &rt,
+        rows.row(70, 0, row(2, 1)),
+        refusal(15, Layer::Plan, 70),
+    )?;
     rows.row(70, 0, row(2, 0))?;
-    is_refused(&rt, rows.row(70, 0, row(1, 0)), 13, Layer::Plan, 70)?;
-    is_refused(&rt, rows.row(70, 1, row(2, 0)), 14, Layer::Plan, 70)?;
-    is_refused(&rt, rows.row(70, 1, row(1, 10)), 15, Layer::Plan, 70)?;
+    is_refused(
+        &rt,
+        rows.row(70, 0, row(1, 0)),
+        refusal(13, Layer::Plan, 70),
+    )?;
+    is_refused(
+        &rt,
+        rows.row(70, 1, row(2, 0)),
+        refusal(14, Layer::Plan, 70),
+    )?;
+    is_refused(
+        &rt,
+        rows.row(70, 1, row(1, 10)),
+        refusal(15, Layer::Plan, 70),
+    )?;
     rows.row(70, 1, row(1, 9))?;
-    is_refused(&rt, rows.row(70, 2, row(1, 0)), 13, Layer::Plan, 70)?;
+    is_refused(
+        &rt,
+        rows.row(70, 2, row(1, 0)),
+        refusal(13, Layer::Plan, 70),
+    )?;
     let plan = rows.close().ok_or_else(|| Fail::new("rows are missing"))?;
     assert_eq!(rt; plan.rank(0), Some(2));
     assert_eq!(rt; plan.hold(1), Some(9));

@@ -16,25 +16,25 @@ pub(crate) fn task(name: &[u8], preference: u8, cost: u16, period: u16) -> TaskR
     }
 }
 
-// The answer is a refusal with this number, layer and place.
+// The refusal with this number, layer and place.
+pub(crate) fn refusal(number: u8, layer: Layer, place: u64) -> Refusal {
+    Refusal {
+        number,
+        layer,
+        place,
+    }
+}
+
+// The answer is this refusal.
 pub(crate) fn is_refused<T: Drop, F: Refuses>(
     rt: &impl Abort,
     answer: Result<T, F>,
-    number: u8,
-    layer: Layer,
-    place: u64,
+    expected: Refusal,
 ) -> Result<(), Fail> {
     let Err(fault) = answer else {
         return Err(Fail::new("not refused"));
     };
-    assert_eq!(rt;
-        fault.refusal(),
-        Refusal {
-            number,
-            layer,
-            place,
-        }
-    );
+    assert_eq!(rt; fault.refusal(), expected);
     Ok(())
 }
 

@@ -2,7 +2,7 @@
 ghost use Rattle.std.specs.Prelude.{None};
 ghost use Rattle.std.proofs.Common.{rules};
 
-use crate::says::{is_refused, task};
+use crate::says::{is_refused, refusal, task};
 use analysis::exact::ExactTest;
 use analysis::fault::QuestionFault;
 use analysis::question::Question;
@@ -40,7 +40,11 @@ fn two_tests(rt: HostRuntime) -> Result<(), Fail> {
     assert_eq!(rt; WholePeriodTest.ask(&list, 2, 0)?, None);
     assert_eq!(rt; WholePeriodTest.ask(&list, 0, 1)?, Some(3));
     assert_eq!(rt; NeverTest.ask(&list, 0, 1)?, None);
-    is_refused(&rt, ExactTest.ask(&list, 0, 2), 17, Layer::Plan, 2)?;
-    is_refused(&rt, ExactTest.ask(&list, 1, 0), 17, Layer::Plan, 0)?;
-    is_refused(&rt, WholePeriodTest.ask(&list, 4, 1), 17, Layer::Plan, 1)
+    is_refused(&rt, ExactTest.ask(&list, 0, 2), refusal(17, Layer::Plan, 2))?;
+    is_refused(&rt, ExactTest.ask(&list, 1, 0), refusal(17, Layer::Plan, 0))?;
+    is_refused(
+        &rt,
+        WholePeriodTest.ask(&list, 4, 1),
+        refusal(17, Layer::Plan, 1),
+    )
 }

@@ -11,7 +11,8 @@ pub enum Fault {
     Plan(PlanFault),
 }
 
-// What was printed, with its length: the report of a plan, or the line of a refusal.
+// What was printed, with its length: the report of a plan, or the line of a refusal. It is no `Result`: a printed refusal is no error
+// of printing, and its length is no reason.
 #[derive(Clone, Copy, PartialEq, Eq, Debug)]
 pub enum Outcome {
     Planned(usize),

@@ -3,7 +3,8 @@ use crate::record::FileKind;
 
 pub mod calls;
 
-// Where reading stands: at the byte `at` of a file, before or after its end record.
+// Where reading stands: at the byte `at` of a file, before or after its end record. The place is known in both cases, so it is no
+// `Option`.
 #[derive(Drop)]
 pub struct Reader<'a> {
     bytes: &'a [u8],

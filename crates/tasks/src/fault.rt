@@ -12,7 +12,7 @@ pub enum Layer {
     Run,
 }
 
-// A refusal as every layer tells it.
+// A refusal as every layer tells it. Its number is part of what is printed.
 #[derive(Clone, Copy, PartialEq, Eq, Debug)]
 pub struct Refusal {
     pub number: u8,

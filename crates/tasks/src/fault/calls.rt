@@ -5,7 +5,8 @@ ghost use Rattle.std.specs.Prelude.{◌≡◌};
 use super::{Layer, Refusal, Refuses, TaskFault};
 
 impl Layer {
-    // The word that a printed refusal has for the layer.
+    // The word that a printed refusal has for the layer. No `Display`: `write!` into fixed memory does not say that it succeeds where
+    // there is room, so a line is put together from bytes.
     pub fn word(self) -> &'static [u8]
         ensures { result.now ≡ layer_word self }
     {

@@ -7,8 +7,7 @@ use Rattle.fixed.proofs.fixed_vec.FixedVec.extend_from_slice.Goals as goal
 
 pub returns : goal.returns
 returns g c =
-    let v = c.args.self.now in
-    (
+    let v = c.args.self.now in (
       omega (arith, length-take-le v.len v.places (omega (arith, v.room)), v.room),
       search (rules, places, common_steps),
       search (rules, overwrites) ∙ sym (drop-drop _ v.len v.places),
