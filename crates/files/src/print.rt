@@ -6,7 +6,7 @@ use crate::text::Text;
 use tasks::fault::Refusal;
 
 // Writes the line of a refusal, `refused NUMBER LAYER PLACE`, and answers its length.
-#[tactic(auto, using(crate::proofs::Texts::word_short))]
+#[tactic(auto, using(crate::proofs::Texts::word_short, crate::proofs::Texts::decimal_short))]
 pub fn print_fault(refusal: Refusal, out: &mut [u8]) -> Result<usize, ByteFault>
     ensures { Writes (fault_line refusal) out.old out.new result }
 {

@@ -9,6 +9,7 @@ use crate::text::Text;
 use planning::plan::{Plan, Row};
 
 // Puts a number and a byte behind it.
+#[tactic(auto, using(crate::proofs::Texts::decimal_short))]
 fn push_number(text: &mut Text, n: u64, end: u8)
     requires { length (written text.old) + 21 ≤ 4096 }
     ensures bytes { written text.new ≡ written text.old ++ (decimal n ++ end ∷ []) }

@@ -29,11 +29,10 @@ impl Text {
 
     // Puts the number behind what the text has, in decimal digits. `write!` would do, but does not say that it succeeds where
     // there is room.
-    #[tactic(auto, using(crate::proofs::Texts::decimal_short))]
     pub(crate) fn push_number(&mut self, n: u64)
-        requires { length (written self.old) + 20 ≤ 4096 }
+        requires { length (written self.old) + length (decimal n) ≤ 4096 }
         ensures bytes { written self.new ≡ written self.old ++ decimal n }
-        ensures longer { length (written self.new) ≤ length (written self.old) + 20 }
+        ensures longer { length (written self.new) ≡ length (written self.old) + length (decimal n) }
     {
         self.push(Buffer::new().format(n).as_bytes());
     }
