@@ -3,6 +3,7 @@ ghost use Rattle.std.specs.Prelude.{◌≡◌, ◌*◌, ◌^◌, ◌<◌};
 ghost use Rattle.analysis.specs.Demand.{ceil, demand as demand_of};
 
 use crate::question::Question;
+use tasks::set::has;
 use tasks::task::Task;
 
 // What the jobs of a task that begin in so many ticks ask for.
@@ -19,12 +20,10 @@ impl Question<'_> {
         ensures { result ≡ demand_of self.now.list.now self.now.set self.now.task ticks }
     {
         let mut sum = u64::from(self.asked().cost);
-        let mut rest = self.set;
-        for other in self.list.tasks() {
-            if rest % 2 == 1 {
+        for (number, other) in self.list.tasks().iter().enumerate() {
+            if has(self.set, number) {
                 sum += jobs_charge(*other, ticks);
             }
-            rest /= 2;
         }
         sum
     }

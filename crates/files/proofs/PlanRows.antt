@@ -1,15 +1,13 @@
 -- The rows of a plan file: what was laid out of a row of a plan is read as it, a record that adds a row was laid out of it, and the rows of
 -- a plan keep the rules. Of its bytes it takes that they are below 256.
-use Rattle.std.proofs.Common.{◌≡◌, ℕ, zero, suc, ◌<◌, true, false, cond, not, ◌||◌, List, [], ◌∷◌, ◌++◌, map, length, get_or, Some, None, Ok, Err, Option, sym, refl, ap, ◌∙◌, arith, length-append}
+use Rattle.std.proofs.Common.{◌≡◌, ℕ, zero, suc, ◌<◌, true, false, cond, not, ◌||◌, List, [], ◌∷◌, ◌++◌, map, length, get_or, Some, None, Ok, Option, sym, refl, ap, ◌∙◌, arith, length-append}
 use Rattle.std.proofs.lemmas.List.{length-map, map-append, get_or_at, get_or_append_left}
 use Rattle.std.proofs.lemmas.Bool.{le-leb, lt-ltb, le-ltb, eq-eqb, ne_eqb, and_from, and_parts, leb-true, eqb-true, not-false, true≢false}
-use Rattle.files.specs.Decoding.{unless, closes, end_fault, Ends}
+use Rattle.files.specs.Decoding.{unless}
 use Rattle.files.specs.Format.{Said, number, kind_fits, length_fits, said}
 use Rattle.files.specs.Format as format
 use Rattle.files.specs.Layout.{laid}
-use Rattle.files.specs.PlanFiles.{plan_adds, plan_rules, decoded_plan, row_body, row_record}
-use Rattle.files.specs.declared.fault.ByteFault.TheVariants.{WrongCount}
-use Rattle.files.specs.declared.fault.FileFault.TheVariants as fault
+use Rattle.files.specs.PlanFiles.{plan_adds, plan_rules, row_body, row_record}
 use Rattle.files.specs.declared.record.FileKind.TheVariants.{Plan as PlanKind}
 use Rattle.files.proofs.Kept.{Bytes, says_plan, RowRecord, RowAdded, Kept}
 use Rattle.files.proofs.Laid.{two_bytes_back}
@@ -19,11 +17,10 @@ use Rattle.tasks.specs.declared.list.TaskList.{TaskList}
 use Rattle.tasks.specs.declared.task.Preference.{Preference}
 use Rattle.tasks.specs.declared.task.Preference.TheVariants.{Asap, Alap}
 use Rattle.planning.specs.Orders.{new_plan_row, ranks, KeepsRules}
-use Rattle.planning.specs.Plans.{list_of, open_rows, rows}
+use Rattle.planning.specs.Plans.{list_of, rows}
 use Rattle.planning.specs.Rows.{prompt_fits, used_in, next_fits, rank_fits, hold_fits, plan_row_fault}
 use Rattle.planning.specs.declared.fault.RowFault.{RowFault}
 use Rattle.planning.specs.declared.fault.RowFault.TheVariants.{WrongTask, WrongRank, WrongHold}
-use Rattle.planning.specs.declared.plan.OpenPlan.{OpenPlan}
 use Rattle.planning.specs.declared.plan.Plan.{Plan}
 use Rattle.planning.specs.declared.plan.Row.{Row}
 
@@ -115,19 +112,3 @@ plan_kept l = record {
   row_added = row_added l;
   complete = λ rs w. le-ltb (length rs) (length (listed l)) (omega (arith, w.all));
 }
-
--- ---- an open plan
-
--- the end record, where rows are missing
-pub rows_missing : (l : TaskList) (bs : List ℕ) (p : OpenPlan) (at n : ℕ) → p.list ≡ l → Ends (plan_rules l) bs (open_rows p) at n → length (open_rows p) < length (listed p.list) → decoded_plan l bs ≡ Err (fault.Bytes (WrongCount at))
-rows_missing l bs p at n same e missing =
-    let some : length (open_rows p) < length (listed l) = omega (arith, ap (λ x. length (listed x)) same) in
-    e ∙ ap (λ b. closes (end_fault b (length bs) at (length (open_rows p)) n) (open_rows p)) (lt-ltb (length (open_rows p)) (length (listed l)) some)
-
--- and where none is
-pub rows_whole : (l : TaskList) (bs : List ℕ) (p : OpenPlan) (q : Plan) (at n : ℕ) → p.list ≡ l → Ends (plan_rules l) bs (open_rows p) at n → (length (open_rows p) ≡ length (listed p.list)) × (q.made ≡ p) → decoded_plan l bs ≡ closes (end_fault false (length bs) at (length (listed l)) n) (rows q)
-rows_whole l bs p q at n same e c =
-    let all : length (open_rows p) ≡ length (listed l) = c.0 ∙ ap (λ x. length (listed x)) same in
-    e
-    ∙ ap (λ b. closes (end_fault b (length bs) at (length (open_rows p)) n) (open_rows p)) (le-ltb (length (open_rows p)) (length (listed l)) (omega arith))
-    ∙ (λ i. closes (end_fault false (length bs) at (all i) n) (open_rows (sym c.1 i)))

@@ -54,8 +54,8 @@ pub(crate) struct EndRecord {
 }
 
 impl EndRecord {
-    // What is wrong with a file in which rows are missing.
-    pub(crate) fn too_early(self) -> ByteFault
+    // What is wrong with a file in which rows are missing, or counted wrong.
+    pub(crate) fn wrong_count(self) -> ByteFault
         ensures { result ≡ WrongCount self.at }
     {
         ByteFault::WrongCount(self.at as u64)
@@ -67,7 +67,7 @@ impl EndRecord {
         ensures { MatchResult result (λ _. end_fault false size self.at rows self.count ≡ None) (λ f. end_fault false size self.at rows self.count ≡ Some f) }
     {
         if usize::from(self.count) != rows {
-            return Err(ByteFault::WrongCount(self.at as u64));
+            return Err(self.wrong_count());
         }
         if size - self.at > END_SIZE {
             return Err(ByteFault::BytesAfterEnd((self.at + END_SIZE) as u64));

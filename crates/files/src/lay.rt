@@ -3,7 +3,7 @@ ghost use Rattle.std.specs.Prelude.{◌≡◌, ℕ, ◌+◌, ◌<◌, ◌≤◌,
 ghost use Rattle.files.specs.Format.{kind_number};
 ghost use Rattle.files.specs.Layout.{laid, encoded_by};
 ghost use Rattle.files.specs.Printing.{Writes};
-ghost use Rattle.files.specs.Text.{written};
+ghost use Rattle.files.specs.Text.{written, HasRoom};
 
 use crate::fault::ByteFault;
 use crate::record::{Kind, MARK_FIRST, MARK_SECOND};
@@ -17,7 +17,7 @@ pub(crate) trait Lay {
     // Puts the record of the row with this number behind the text.
     fn push(&self, number: usize, text: &mut Text)
         requires few { number < 32 }
-        requires room { length (written text.old) + 25 ≤ 4096 }
+        requires room { HasRoom text.old 25 }
         ensures { written text.new ≡ written text.old ++ record_of number self.now };
 
     ghost short: { (k : ℕ) (x : Self) → length (record_of k x) ≤ 25 };
@@ -26,7 +26,7 @@ pub(crate) trait Lay {
 // Puts a record of this kind behind the text; its body is `numbers`, and `name` behind them.
 pub(crate) fn push_record(text: &mut Text, kind: Kind, numbers: &[u8], name: &[u8])
     requires body { length numbers.now + length name.now ≤ 21 }
-    requires room { length (written text.old) + 25 ≤ 4096 }
+    requires room { HasRoom text.old 25 }
     ensures { written text.new ≡ written text.old ++ laid (kind_number kind) (numbers.now ++ name.now) }
 {
     let len = numbers.len() + name.len();

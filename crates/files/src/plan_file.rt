@@ -62,9 +62,7 @@ fn plan_in(bytes: &[u8], list: &TaskList) -> Result<Plan, PlanFileFault>
 {
     let mut open = OpenPlan::begin(list);
     let end = gather_rows(bytes, &mut open)?;
-    let Some(plan) = open.close() else {
-        return Err(FileFault::Bytes(end.too_early()));
-    };
+    let plan = open.close().ok_or(end.wrong_count())?;
     end.check(bytes.len(), list.len())?;
     Ok(plan)
 }

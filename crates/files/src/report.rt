@@ -2,7 +2,7 @@
 ghost use Rattle.std.specs.Prelude.{◌≡◌, ◌+◌, ◌<◌, ◌≤◌, [], ◌∷◌, ◌++◌, length, codes, decimal};
 ghost use Rattle.files.specs.Printing.{Writes};
 ghost use Rattle.files.specs.Report.{bound_text, line_of, report};
-ghost use Rattle.files.specs.Text.{written};
+ghost use Rattle.files.specs.Text.{written, HasRoom};
 
 use crate::fault::ByteFault;
 use crate::text::Text;
@@ -11,7 +11,7 @@ use planning::plan::{Plan, Row};
 // Puts a number and a byte behind it.
 #[tactic(auto, using(crate::proofs::Texts::decimal_short))]
 fn push_number(text: &mut Text, n: u64, end: u8)
-    requires { length (written text.old) + 21 ≤ 4096 }
+    requires { HasRoom text.old 21 }
     ensures bytes { written text.new ≡ written text.old ++ (decimal n ++ end ∷ []) }
     ensures longer { length (written text.new) ≤ length (written text.old) + 21 }
 {
@@ -21,7 +21,7 @@ fn push_number(text: &mut Text, n: u64, end: u8)
 
 // Puts a bound, or `-` where there is none, and a blank.
 fn push_bound(text: &mut Text, bound: Option<u16>)
-    requires { length (written text.old) + 21 ≤ 4096 }
+    requires { HasRoom text.old 21 }
     ensures bytes { written text.new ≡ written text.old ++ (bound_text bound ++ codes " ") }
     ensures longer { length (written text.new) ≤ length (written text.old) + 21 }
 {
@@ -33,7 +33,7 @@ fn push_bound(text: &mut Text, bound: Option<u16>)
 
 // Puts the line of a task with its row and its bound.
 fn push_line(text: &mut Text, task: usize, row: &Row, bound: Option<u16>)
-    requires { length (written text.old) + 84 ≤ 4096 }
+    requires { HasRoom text.old 84 }
     ensures bytes { written text.new ≡ written text.old ++ line_of task row.now bound }
     ensures longer { length (written text.new) ≤ length (written text.old) + 84 }
 {

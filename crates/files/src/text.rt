@@ -3,8 +3,11 @@ use fixed::fixed_vec::FixedVec;
 
 pub mod calls;
 
-// At most 4096 bytes.
+// The most bytes that are put together.
+pub(crate) const MAX_TEXT: usize = 4_096;
+
+// At most so many bytes.
 #[derive(Drop)]
 pub(crate) struct Text {
-    bytes: FixedVec<u8, 4096>,
+    bytes: FixedVec<u8, MAX_TEXT>,
 }

@@ -102,6 +102,10 @@ module _ (p : Plan) where
   unfolding above
   above_bit k j = bit_above (ranks (rows p)) (rank_of p k) j
 
+  pub above_below : (k : ℕ) → above p k < 2 ^ size p
+  unfolding above
+  above_below k = subst (λ n. above_in (ranks (rows p)) (rank_of p k) < 2 ^ n) long (above_word (ranks (rows p)) (rank_of p k))
+
   pub above_premises : (k : ℕ) → k < size p → Premises (list_of p) (above p k) k
   unfolding above
   above_premises k h = subst (λ rs. Premises (list_of p) (above_in rs (rank_of p k)) k) all (rank_premises (list_of p) (ranks (rows p)) k h)

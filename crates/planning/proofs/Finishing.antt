@@ -107,18 +107,16 @@ module _ (bound : ℕ → ℕ → Option ℕ) (p : Plan) (m : ℕ) (d : Draft) (
   held_same : (k : ℕ) → k < size p → held_for p k ≡ held_in d k
   held_same k h = ap (λ rs. get_or (holds rs) k 0) same ∙ first_is (λ r. r.hold) d.rows (size p) k h
 
-  above_same : (k : ℕ) → k < size p → above p k ≡ above_in (take (size p) (ranks d.rows)) (rank_in d k)
-  unfolding above
-  above_same k h = (λ i. above_in ((ap ranks same ∙ sym (take-map (λ r. r.rank) (size p) d.rows)) i) (rank_same k h i))
-
-  within : (k : ℕ) → k < size p → (w : WellPlaced bound (list_of p) d k) → Within (above p k) w.below
-  within k h w = subst (λ s. Within s w.below) (sym (above_same k h)) (placed_within bound (list_of p) d k w)
+  within : (k : ℕ) (w : WellPlaced bound (list_of p) d k) → Within (above_in (ranks (rows p)) (rank_in d k)) w.below
+  within k w =
+      subst (λ rs. Within (above_in rs (rank_in d k)) w.below) (take-map (λ r. r.rank) (size p) d.rows ∙ sym (ap ranks same)) (placed_within bound (list_of p) d k w)
 
   pub finished_fits : Fits p
+  unfolding above
   finished_fits k h =
       let w = finished_well bound (list_of p) m d drafted none k h in
       let s = sound w.below k w.limit w.asked w.bounded in
-      let met : demand (list_of p) (above p k) k w.limit ≤ w.limit = omega (arith, s.1, demand_within (list_of p) (above p k) w.below k w.limit (within k h w)) in
+      let met : demand (list_of p) (above p k) k w.limit ≤ w.limit = omega (arith, s.1, demand_within (list_of p) (above p k) w.below k w.limit (subst (λ r. Within (above_in (ranks (rows p)) r) w.below) (sym (rank_same k h)) (within k w))) in
       let r = response_exists (list_of p) (above p k) k w.limit s.0 met in
       record {
         ticks = r.0;

@@ -84,8 +84,8 @@ keep_more l rs r old room rank hold =
     }
 
 -- what is told of the task that is read of the list at a listed number
-pub hold_read : (l : TaskList) (xs : List Task) (k h : ℕ) (x : Task) (b : Bool) → b ≡ may_hold l x h → x ≡ get_or xs k x → xs ≡ listed l → k < length (listed l) → b ≡ hold_fits l k h
-hold_read l xs k h x b e is same here = e ∙ ap (λ y. may_hold l y h) (is ∙ read_is l xs k x same here)
+pub hold_read : (l : TaskList) (xs : List Task) (k h : ℕ) (x : Task) (b : Bool) → b ≡ may_hold x.preference (deadline l x) h → x ≡ get_or xs k x → xs ≡ listed l → k < length (listed l) → b ≡ hold_fits l k h
+hold_read l xs k h x b e is same here = e ∙ ap (λ y. may_hold y.preference (deadline l y) h) (is ∙ read_is l xs k x same here)
 
 -- ---- the vector of the rows
 

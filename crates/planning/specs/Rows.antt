@@ -3,7 +3,8 @@
 --   used_in rs r                  one of the rows rs has the rank r
 --   next_fits l rs k              k is the number of the row after rs, and is listed
 --   rank_fits l rs r              r is from 1 to the number of tasks, and none of the rows rs has it
---   may_hold l x h, hold_fits l k h   h is below the deadline of the task x, and 0 if that is ASAP; the same of task k
+--   may_hold p d h                h is below the deadline d, and 0 if the preference p is ASAP
+--   hold_fits l k h               the same of task k
 --   plan_row_fault l rs at k r h  what is wrong with the row (k, r, h) after the rows rs, if anything is; the fault names the place `at`
 --   RowTaken at k r p q a         taking the row r of task k turns the open plan p into q and answers a; what stands behind the rows
 --                                 stays as it was
@@ -15,7 +16,6 @@ use Rattle.tasks.specs.List.{listed, task_at}
 use Rattle.tasks.specs.declared.list.TaskList.{TaskList}
 use Rattle.tasks.specs.declared.task.Preference.{Preference}
 use Rattle.tasks.specs.declared.task.Preference.TheVariants.{Asap, Alap}
-use Rattle.tasks.specs.declared.task.Task.{Task}
 use Rattle.analysis.specs.Demand.{deadline}
 use Rattle.planning.specs.Plans.{open_rows}
 use Rattle.planning.specs.declared.fault.RowFault.{RowFault}
@@ -37,11 +37,11 @@ abbrev pub prompt_fits : Preference → ℕ → Bool
 prompt_fits Asap h = h == 0
 prompt_fits Alap h = true
 
-abbrev pub may_hold : TaskList → Task → ℕ → Bool
-may_hold l x h = nat_lt h (deadline l x) && prompt_fits x.preference h
+abbrev pub may_hold : Preference → ℕ → ℕ → Bool
+may_hold p d h = nat_lt h d && prompt_fits p h
 
 abbrev pub hold_fits : TaskList → ℕ → ℕ → Bool
-hold_fits l k h = may_hold l (task_at l k) h
+hold_fits l k h = may_hold (task_at l k).preference (deadline l (task_at l k)) h
 
 abbrev pub plan_row_fault : TaskList → List Row → ℕ → ℕ → ℕ → ℕ → Option RowFault
 plan_row_fault l rs at k r h =

@@ -6,6 +6,7 @@ ghost use Rattle.tasks.specs.List.{listed};
 
 use fixed::fixed_vec::FixedVec;
 use tasks::list::TaskList;
+use tasks::list::calls::MAX_TASKS;
 
 pub mod calls;
 pub mod planner;
@@ -28,7 +29,7 @@ impl Row {
 #[derive(Drop)]
 pub struct OpenPlan {
     list: TaskList,
-    rows: FixedVec<Row, 32>,
+    rows: FixedVec<Row, MAX_TASKS>,
     ghost keep: { RowsKeep list (elements rows) },
 }
 

@@ -5,6 +5,7 @@ ghost use Rattle.tasks.specs.Set.{bit};
 
 use crate::plan::Row;
 use tasks::list::TaskList;
+use tasks::list::calls::MAX_TASKS;
 
 pub mod calls;
 
@@ -37,5 +38,5 @@ pub(crate) struct Round<'a, T> {
 pub struct Draft {
     pub unplaced: u32,
     pub questions: u32,
-    pub rows: [Row; 32],
+    pub rows: [Row; MAX_TASKS],
 }

@@ -1,11 +1,9 @@
 // Task lists: open while tasks are added, closed once they are planned.
 use crate::task::Task;
+use calls::MAX_TASKS;
 use fixed::fixed_vec::FixedVec;
 
 pub mod calls;
-
-// The most tasks that a list holds: a set of tasks is a word of as many bits.
-pub const MAX_TASKS: usize = 32;
 
 // A list that is closed: it takes no more tasks, and can be planned.
 #[derive(Clone, Copy)]

@@ -2,6 +2,7 @@
 ghost use Rattle.std.specs.Prelude.{◌≡◌, ◌≤◌, length};
 ghost use Rattle.fixed.specs.FixedVec.{elements};
 
+use calls::MAX_NAME;
 use fixed::fixed_vec::FixedVec;
 
 pub mod calls;
@@ -20,7 +21,7 @@ pub struct UnknownPreference(pub u8);
 // A name of 1 to 16 bytes.
 #[derive(Clone, Copy)]
 pub struct Name {
-    bytes: FixedVec<u8, 16>,
+    bytes: FixedVec<u8, MAX_NAME>,
     ghost some: { 1 ≤ length (elements bytes) },
 }
 

@@ -36,7 +36,7 @@ impl Kind {
         ensures { result ≡ length_fits (kind_number self) len }
     {
         match self {
-            Kind::Task => len >= 6 && len <= 21,
+            Kind::Task => (6..=21).contains(&len),
             Kind::Note => true,
             Kind::End => len == 2,
             Kind::Plan => len == 4,

@@ -1,7 +1,7 @@
 // Putting bytes and numbers into a text, and writing it into a buffer.
 ghost use Rattle.std.specs.Prelude.{◌≡◌, ◌+◌, ◌≤◌, [], ◌++◌, length, decimal};
 ghost use Rattle.files.specs.Printing.{Writes};
-ghost use Rattle.files.specs.Text.{written};
+ghost use Rattle.files.specs.Text.{written, HasRoom};
 
 use super::Text;
 use crate::fault::ByteFault;
@@ -20,7 +20,7 @@ impl Text {
 
     // Puts the bytes behind those that the text has.
     pub(crate) fn push(&mut self, part: &[u8])
-        requires { length (written self.old) + length part.now ≤ 4096 }
+        requires { HasRoom self.old (length part.now) }
         ensures bytes { written self.new ≡ written self.old ++ part.now }
         ensures longer { length (written self.new) ≡ length (written self.old) + length part.now }
     {
@@ -30,7 +30,7 @@ impl Text {
     // Puts the number behind what the text has, in decimal digits. `write!` would do, but does not say that it succeeds where
     // there is room.
     pub(crate) fn push_number(&mut self, n: u64)
-        requires { length (written self.old) + length (decimal n) ≤ 4096 }
+        requires { HasRoom self.old (length (decimal n)) }
         ensures bytes { written self.new ≡ written self.old ++ decimal n }
         ensures longer { length (written self.new) ≡ length (written self.old) + length (decimal n) }
     {

@@ -5,7 +5,7 @@ ghost use Rattle.fixed.specs.FixedVec.{elements, Appends};
 use super::{FixedVec, Full};
 use std::alloc::AllocError;
 
-// A copy; it cannot fail. A derive is refused where a struct with a ghost field has a parameter.
+// A copy; it cannot fail. A derive is refused where a struct with a ghost field has a type parameter.
 impl<T: Copy, const N: usize> Clone for FixedVec<T, N> {
     ghost is_clone = { λ v copy. copy ≡ v };
 

@@ -10,6 +10,13 @@ use fixed::fixed_vec::FixedVec;
 use tasks::list::TaskList;
 use tasks::task::{Preference, Task};
 
+// Whether a task may have the hold: it is below the deadline, and an ASAP task is not held.
+fn may_hold(asked: Task, hold: u16) -> bool
+    ensures { result ≡ may_hold_of asked.preference asked.period hold }
+{
+    hold < asked.period && (asked.preference == Preference::Alap || hold == 0)
+}
+
 impl OpenPlan {
     // A plan for the list, with no row yet.
     pub fn begin(list: &TaskList) -> OpenPlan
@@ -37,13 +44,6 @@ impl OpenPlan {
         rank >= 1 && usize::from(rank) <= self.list.len() && !self.rank_used(rank)
     }
 
-    // Whether a task may have the hold: it is below the deadline, and an ASAP task is not held.
-    fn may_hold(&self, asked: Task, hold: u16) -> bool
-        ensures { result ≡ may_hold_of self.now.list asked hold }
-    {
-        hold < asked.period && (asked.preference == Preference::Alap || hold == 0)
-    }
-
     // Takes the next row. A refusal names the place that the caller gives, and leaves the plan as it was.
     pub fn row(&mut self, place: u64, task: usize, row: Row) -> Result<(), RowFault>
         ensures { RowTaken place task row self.old self.new result }
@@ -54,7 +54,7 @@ impl OpenPlan {
         if !self.rank_fits(row.rank) {
             return Err(RowFault::WrongRank(place));
         }
-        if !self.may_hold(self.list.tasks()[task], row.hold) {
+        if !may_hold(self.list.tasks()[task], row.hold) {
             return Err(RowFault::WrongHold(place));
         }
         self.rows.push(row).unwrap();

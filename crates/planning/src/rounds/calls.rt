@@ -12,6 +12,7 @@ use super::{Candidate, Draft, Found, Round};
 use crate::plan::Row;
 use analysis::test::Test;
 use tasks::list::TaskList;
+use tasks::list::calls::MAX_TASKS;
 use tasks::set::{first_tasks, has, take_out};
 use tasks::task::Preference;
 
@@ -110,7 +111,7 @@ impl Draft {
         Draft {
             unplaced: first_tasks(list.len()),
             questions: 0,
-            rows: [Row::NONE; 32],
+            rows: [Row::NONE; MAX_TASKS],
         }
     }
 

@@ -3,10 +3,13 @@ ghost use Rattle.std.specs.Prelude.{◌≡◌, [], length, slice_get, Some, None
 ghost use Rattle.tasks.specs.List.{listed, opened, row_said, limit_fault, Adds};
 ghost use Rattle.tasks.specs.Task.{preference_of};
 
-use super::{MAX_TASKS, OpenList, TaskList};
+use super::{OpenList, TaskList};
 use crate::fault::TaskFault;
 use crate::task::{Name, Preference, Task, TaskRow};
 use fixed::fixed_vec::FixedVec;
+
+// The most tasks that a list holds: a set of tasks is a word of as many bits.
+pub const MAX_TASKS: usize = 32;
 
 // The longest period, in ticks.
 pub const MAX_PERIOD: u16 = 60_000;
@@ -28,9 +31,9 @@ impl TaskRow<'_> {
     fn within_limits(&self, place: u64) -> Result<Preference, TaskFault>
         ensures { MatchResult result (λ p. (limit_fault place self.now.preference self.now.cost self.now.period ≡ None) × (preference_of self.now.preference ≡ Some p)) (λ f. limit_fault place self.now.preference self.now.cost self.now.period ≡ Some f) }
     {
-        let Ok(preference) = Preference::try_from(self.preference) else {
-            return Err(TaskFault::UnknownPreference(place));
-        };
+        let preference = Preference::try_from(self.preference).map_err(
+            |_| TaskFault::UnknownPreference(place),
+        )?;
         if self.cost == 0 {
             return Err(TaskFault::ZeroCost(place));
         }
@@ -72,15 +75,13 @@ impl OpenList {
         if number >= MAX_TASKS {
             return Err(TaskFault::TooManyTasks(place));
         }
-        let Some(name) = Name::new(row.name) else {
-            return Err(TaskFault::NameLength(place));
-        };
-        let _ = self.list.tasks.push(Task {
-            name,
+        let task = Task {
+            name: Name::new(row.name).ok_or(TaskFault::NameLength(place))?,
             preference,
             cost: row.cost,
             period: row.period,
-        });
+        };
+        self.list.tasks.push(task).unwrap();
         Ok(number)
     }
 

@@ -1,32 +1,42 @@
-use Rattle.std.proofs.Common.{◌≡◌, ℕ, ◌+◌, ◌*◌, ◌%◌, ap, ◌∙◌, arith}
+use Rattle.std.proofs.Common.{◌≡◌, ℕ, ◌+◌, ◌*◌, ◌/◌, ◌%◌, ◌^◌, div-one, one-add, drop, sym, ap, ◌∙◌, arith}
+use Rattle.std.proofs.lemmas.Nat.{shr-shr}
+use Rattle.std.proofs.lemmas.Bool.Decides.{nat_tests}
 use Rattle.tasks.specs.List.{task_at}
+use Rattle.tasks.specs.Set.{bit}
+use Rattle.tasks.proofs.SetLaws.{bit_is}
 use Rattle.analysis.specs.Demand.{charge, ceil, load, demand}
 use Rattle.analysis.specs.DemandLaws.{load_more, load_all}
 use Rattle.analysis.proofs.question.Question.demand.Goals as goal
-use Rattle.analysis.proofs.question.Question.demand.Goals.{then-rest-eq1, else-rest-eq1}
+use Rattle.analysis.proofs.question.Question.demand.Goals.{then-has, else-has}
 
-zero_bit : (n : ℕ) → (n % 2 ≡ 1 → ⊥) → n % 2 ≡ 0
-zero_bit n h = omega arith
-
-pub loop-other-init : goal.loop-other-init
+pub loop-number-init : goal.loop-number-init
 unfolding demand
-loop-other-init c =
+loop-number-init c =
     let q = c.args.self.now in
     let own = c.from-sum.ensures ∙ ap (λ x. charge q.list.now x) c.asked.ensures in (
-      (λ i. own i + load q.list.now (c.tasks-other-items.ensures i) q.set c.args.ticks),
+      (λ i. own i + load q.list.now (c.tasks-other-items.ensures i) (div-one q.set i) c.args.ticks),
       omega (arith, own, (task_at q.list.now q.task).limits),
     )
 
-pub loop-other-preserved : goal.loop-other-preserved
-loop-other-preserved c =
+pub loop-number-preserved : goal.loop-number-preserved
+loop-number-preserved c =
     let l = c.args.self.now.list.now in
+    let s = c.args.self.now.set in
+    let k = c.loop-number.number in
     let x = c.other-item.result in
     let jobs : ℕ = charge l x * ceil c.args.ticks x.period in
-    let more = load_more l c.tasks-other-items.result.now c.loop-other.other-index c.loop-other.rest c.args.ticks x c.loop-other-test.true c.other-item.is in
-    elim c.if-rest-eq1.branch [
-      | then-rest-eq1 w ↦ (omega (arith, w.sum-is, w.jobs_charge-sum.ensures, more, ap (λ b. b * jobs) w.if-rest-eq1.true), omega (arith, w.sum-is, w.jobs_charge-sum.ensures.small))
-      | else-rest-eq1 w ↦ (omega (arith, w.sum-is, more, ap (λ b. b * jobs) (zero_bit _ w.if-rest-eq1.false)), omega (arith, w.sum-is))
+    let more = load_more l c.tasks-other-items.result.now k (s / 2 ^ k) c.args.ticks x c.loop-number-test.true c.other-item.is in
+    let rest : s / 2 ^ k / 2 ≡ s / 2 ^ (k + 1) = shr-shr s k 1 in
+    let next = ap (λ r. load l (drop (k + 1) c.tasks-other-items.result.now) r c.args.ticks) rest in
+    elim c.if-has.branch [
+      | then-has w ↦
+          let one : s / 2 ^ k % 2 ≡ 1 = sym (bit_is s k) ∙ grind (arith, nat_tests, w.if-has.true, c.has.ensures) in
+          (omega (arith, w.sum-is, w.jobs_charge-sum.ensures, more, next, ap (λ b. b * jobs) one), omega (arith, w.sum-is, w.jobs_charge-sum.ensures.small))
+      | else-has w ↦
+          let other : bit s k ≡ 1 → ⊥ = grind (arith, nat_tests, w.if-has.false, c.has.ensures) in
+          let none : s / 2 ^ k % 2 ≡ 0 = omega (arith, sym (bit_is s k), other) in
+          (omega (arith, w.sum-is, more, next, ap (λ b. b * jobs) none), omega (arith, w.sum-is))
     ]
 
 pub returns : goal.returns
-returns c = omega (arith, c.loop-other.invariant.0, load_all c.args.self.now.list.now c.tasks-other-items.result.now c.loop-other.other-index c.loop-other.rest c.args.ticks c.loop-other-test.false)
+returns c = omega (arith, c.loop-number.invariant.0, load_all c.args.self.now.list.now c.tasks-other-items.result.now c.loop-number.number (c.args.self.now.set / 2 ^ c.loop-number.number) c.args.ticks c.loop-number-test.false)
