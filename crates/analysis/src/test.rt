@@ -14,7 +14,8 @@ pub trait Test {
     // The bound for a list, a set and a task.
     ghost bound: { Self → ClosedList → ℕ → ℕ → OptionOf ℕ };
 
-    // Answers the bound for the task below the set. Refused exactly if the question is not well put.
+    // Answers the bound for the task below the set. Refused exactly if the question is not well put: so it takes list, set and task, and
+    // no `Question`, which always is.
     fn ask(&self, list: &TaskList, set: u32, task: usize) -> Result<Option<u16>, QuestionFault>
         ensures { Answered list.now set task (bound self.now list.now set task) result };
 

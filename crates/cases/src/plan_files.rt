@@ -1,5 +1,5 @@
 // Plan files, read and written.
-use crate::says::{is_refused, refusal, task};
+use crate::says::{is_refused, refusal, two_tasks};
 use files::list_file::read_list;
 use files::plan_file::{read_plan, write_plan};
 use planning::plan::Plan;
@@ -43,17 +43,9 @@ fn refuses(rt: &impl Abort, bytes: &[u8], list: &TaskList, expected: Refusal) ->
     Ok(())
 }
 
-// A list of an ASAP task (1,5) and an ALAP task (1,10).
-fn two_tasks() -> TaskList {
-    let mut open = OpenList::new();
-    let _ = open.add(task(b"read", 0, 1, 5));
-    let _ = open.add(task(b"card", 1, 1, 10));
-    open.close()
-}
-
 #[test]
 fn wrong_rows(rt: HostRuntime) -> Result<(), Fail> {
-    let list = two_tasks();
+    let list = two_tasks(&rt)?;
     refuses(
         &rt,
         b"\xa7\x5e\x04\x04\x01\x01\x00\x00",
@@ -100,7 +92,7 @@ fn wrong_rows(rt: HostRuntime) -> Result<(), Fail> {
 
 #[test]
 fn wrong_files(rt: HostRuntime) -> Result<(), Fail> {
-    let list = two_tasks();
+    let list = two_tasks(&rt)?;
     refuses(
         &rt,
         b"\xa7\x5e\x01\x06\x00\x00\x01\x00\x05a",

@@ -1,9 +1,8 @@
 // Plans made row by row.
-use crate::says::{is_refused, refusal, task};
+use crate::says::{is_refused, refusal, two_tasks};
 use planning::plan::{OpenPlan, Row};
 use std::test::Fail;
 use tasks::fault::Layer;
-use tasks::list::OpenList;
 
 // A row with this rank and this hold.
 fn row(rank: u8, hold: u16) -> Row {
@@ -12,10 +11,7 @@ fn row(rank: u8, hold: u16) -> Row {
 
 #[test]
 fn by_rows(rt: HostRuntime) -> Result<(), Fail> {
-    let mut open = OpenList::new();
-    assert_eq!(rt; open.add(task(b"read", 0, 1, 5))?, 0);
-    assert_eq!(rt; open.add(task(b"card", 1, 1, 10))?, 1);
-    let list = open.close();
+    let list = two_tasks(&rt)?;
     let mut rows = OpenPlan::begin(&list);
     is_refused(
         &rt,
@@ -71,10 +67,7 @@ fn by_rows(rt: HostRuntime) -> Result<(), Fail> {
 // Hold 8 is the longest that is judged yes.
 #[test]
 fn longest_hold(rt: HostRuntime) -> Result<(), Fail> {
-    let mut open = OpenList::new();
-    assert_eq!(rt; open.add(task(b"read", 0, 1, 5))?, 0);
-    assert_eq!(rt; open.add(task(b"card", 1, 1, 10))?, 1);
-    let list = open.close();
+    let list = two_tasks(&rt)?;
     let mut rows = OpenPlan::begin(&list);
     rows.row(0, 0, row(2, 0))?;
     rows.row(1, 1, row(1, 8))?;

@@ -4,6 +4,7 @@ use files::program::calls::plan_file;
 use std::process::Abort;
 use std::test::Fail;
 use tasks::fault::{Layer, Refusal, Refuses};
+use tasks::list::{OpenList, TaskList};
 use tasks::task::TaskRow;
 
 // A task as it is handed in.
@@ -14,6 +15,14 @@ pub(crate) fn task(name: &[u8], preference: u8, cost: u16, period: u16) -> TaskR
         cost,
         period,
     }
+}
+
+// A list of an ASAP task (1,5) and an ALAP task (1,10).
+pub(crate) fn two_tasks(rt: &impl Abort) -> Result<TaskList, Fail> {
+    let mut open = OpenList::new();
+    assert_eq!(rt; open.add(task(b"read", 0, 1, 5))?, 0);
+    assert_eq!(rt; open.add(task(b"card", 1, 1, 10))?, 1);
+    Ok(open.close())
 }
 
 // The refusal with this number, layer and place.

@@ -1,5 +1,6 @@
 // The stores of a queue, over plain memory: the first `count` places hold the elements. The count stands beside the whole slice,
-// since of a part of a slice that is lent through a queue's field the checker knows its length alone afterwards.
+// since of a part that is lent through the field of a queue, whose type has no invariant, the checker knows its length alone
+// afterwards.
 ghost use Rattle.queue.specs.Sequences.{insertion, drop_one, holds, laid};
 ghost use Rattle.std.specs.Prelude.{◌≡◌, ◌<◌, ◌≤◌, length, take};
 
