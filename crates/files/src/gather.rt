@@ -38,11 +38,13 @@ pub(crate) trait Gather {
         ensures says { Says ((rules self.old).adds at (rows self.old) (view «record».entry)) (rows self.new) result }
         ensures same { same_but_rows self.old self.new };
 
-    // What is the same stays the same, and follows the same rules.
+    // Nothing differs from itself.
     ghost same: { (x : Self) → same_but_rows x x };
 
+    // Differing in rows at most carries over.
     ghost same_on: { (x y z : Self) → same_but_rows x y → same_but_rows y z → same_but_rows x z };
 
+    // What differs in rows at most follows the same rules.
     ghost same_rules: { (x y : Self) → same_but_rows x y → rules y ≡ rules x };
 }
 

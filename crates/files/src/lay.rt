@@ -20,6 +20,7 @@ pub(crate) trait Lay {
         requires room { HasRoom text.old 25 }
         ensures { written text.new ≡ written text.old ++ record_of number self.now };
 
+    // A record has at most 25 bytes.
     ghost short: { (k : ℕ) (x : Self) → length (record_of k x) ≤ 25 };
 }
 

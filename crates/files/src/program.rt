@@ -11,8 +11,8 @@ pub enum Fault {
     Plan(PlanFault),
 }
 
-// What was printed, with its length: the report of a plan, or the line of a refusal. It is no `Result`: a printed refusal is no error
-// of printing, and its length is no reason.
+// What was printed, with its length: the report of a plan, or the line of a refusal. It is no `Result`: in both cases something was
+// printed, and the length says how much.
 #[derive(Clone, Copy, PartialEq, Eq, Debug)]
 pub enum Outcome {
     Planned(usize),

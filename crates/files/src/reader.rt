@@ -3,10 +3,9 @@ use crate::record::FileKind;
 
 pub mod calls;
 
-// A reader of records. It is no `Iterator`: after a refusal it stays where it is, and refuses again, so its answers have no end.
-//
-// It stands at the byte `at` of a file, before or after its end record. The place is known in both cases, so it is no
-// `Option`.
+// A reader of records, which stands at the byte `at` of a file, before or after its end record: the place is still known after that, so
+// `at` is no `Option`. The reader is no `Iterator`: `next` answers a fault, or a record if there is one, and after a fault it answers the
+// same fault again.
 #[derive(Drop)]
 pub struct Reader<'a> {
     bytes: &'a [u8],

@@ -6,7 +6,7 @@ pub mod calls;
 // The most bytes that are put together.
 pub(crate) const MAX_TEXT: usize = 4_096;
 
-// At most so many bytes.
+// A text of at most `MAX_TEXT` bytes.
 #[derive(Drop)]
 pub(crate) struct Text {
     bytes: FixedVec<u8, MAX_TEXT>,

@@ -8,7 +8,6 @@ use tasks::fault::{Layer, Refusal, Refuses};
 impl Refuses for QuestionFault {
     ghost told = { question_refusal };
 
-    // Number, layer and place of the fault.
     fn refusal(self) -> Refusal {
         match self {
             QuestionFault::IllPut(place) => Refusal {

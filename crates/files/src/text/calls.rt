@@ -27,8 +27,8 @@ impl Text {
         self.bytes.extend_from_slice(part).unwrap();
     }
 
-    // Puts the number behind what the text has, in decimal digits. `write!` would do, but does not say that it succeeds where
-    // there is room.
+    // Puts the number behind what the text has, in decimal digits, by `itoa`: `write!` does not promise that it succeeds where there is
+    // room.
     pub(crate) fn push_number(&mut self, n: u64)
         requires { HasRoom self.old (length (decimal n)) }
         ensures bytes { written self.new ≡ written self.old ++ decimal n }

@@ -8,7 +8,7 @@ use tasks::fault::{Layer, Refusal, Refuses};
 impl Refuses for PlanFault {
     ghost told = { plan_refusal };
 
-    // Number, layer and place of the fault: the place is the set left over.
+    // The place is the set left over.
     fn refusal(self) -> Refusal {
         let PlanFault::LeftOver(tally) = self;
         Refusal {
@@ -22,7 +22,6 @@ impl Refuses for PlanFault {
 impl Refuses for RowFault {
     ghost told = { row_refusal };
 
-    // Number, layer and place of the fault.
     fn refusal(self) -> Refusal {
         let (number, place) = match self {
             RowFault::WrongTask(place) => (13, place),

@@ -8,7 +8,7 @@ use tasks::fault::{Layer, Refusal, Refuses};
 impl Refuses for QueueFault {
     ghost told = { queue_refusal };
 
-    // Number, layer and place of the fault: the place is the length available.
+    // The place is the length available.
     fn refusal(self) -> Refusal {
         let QueueFault::Full(place) = self;
         Refusal {
