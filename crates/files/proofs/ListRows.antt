@@ -35,7 +35,7 @@ row_keeps t = record {
   some_cost = t.limits.0;
   cost = t.limits.1;
   period = t.limits.2;
-  named = t.name.some;
+  named = t.name.not_empty;
   name = omega (arith, length-take t.name.bytes.len t.name.bytes.places, t.name.bytes.room);
 }
 

@@ -23,7 +23,7 @@ padded n = n ++ replicate (16 - length n) 0
 
 abbrev pub task_of : (n : List ℕ) (p : Preference) (c q : ℕ) → T (nat_le 1 (length (take (length n) (padded n)))) → T (nat_le (length n) 16) → T (length (padded n) == 16) → T (nat_le 1 c) → T (nat_le c q) → T (nat_le q 60000) → Task
 task_of n p c q n1 n2 n3 a b d = record {
-  name = record { bytes = record { places = padded n; len = length n; room = (leb→le (length n) 16 n2, eqb→eq (length (padded n)) 16 n3) }; some = leb→le 1 (length (take (length n) (padded n))) n1 };
+  name = record { bytes = record { places = padded n; len = length n; room = (leb→le (length n) 16 n2, eqb→eq (length (padded n)) 16 n3) }; not_empty = leb→le 1 (length (take (length n) (padded n))) n1 };
   preference = p;
   cost = c;
   period = q;

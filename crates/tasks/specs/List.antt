@@ -28,7 +28,7 @@ opened l = listed l.list
 -- a task that keeps the limits, for places past a list's end
 pub filler : Task
 filler = record {
-  name = record { bytes = record { places = replicate 16 0; len = 1; room = (lit≤ tt, refl) }; some = lit≤ tt };
+  name = record { bytes = record { places = replicate 16 0; len = 1; room = (lit≤ tt, refl) }; not_empty = lit≤ tt };
   preference = Asap;
   cost = 1;
   period = 1;

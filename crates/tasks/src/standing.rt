@@ -62,7 +62,7 @@ fn add_row(list: &mut OpenList, row: TaskRow<'static>)
     requires { add_fault (length (opened list.old)) (length (opened list.old)) (row_said row) ≡ None }
     ensures { rows (opened list.new) ≡ rows (opened list.old) ++ row_said row.entry ∷ [] }
 {
-    let _ = list.add(row);
+    list.add(row).unwrap();
 }
 
 // The standing list, closed.

@@ -22,7 +22,7 @@ pub struct UnknownPreference(pub u8);
 #[derive(Clone, Copy)]
 pub struct Name {
     bytes: FixedVec<u8, MAX_NAME>,
-    ghost some: { 1 ≤ length (elements bytes) },
+    ghost not_empty: { 1 ≤ length (elements bytes) },
 }
 
 // A periodic task. Each of its jobs takes at most `cost` ticks, and comes at least `period` ticks after the one before.

@@ -77,8 +77,8 @@ impl Plan {
             return false;
         };
         let deadline = u32::from(asked.period);
-        let run = self.hold(task).zip(self.response(task));
-        run.is_some_and(|(hold, ticks)| u32::from(hold) + u32::from(ticks) <= deadline)
+        let parts = self.hold(task).zip(self.response(task));
+        parts.is_some_and(|(hold, ticks)| u32::from(hold) + u32::from(ticks) <= deadline)
     }
 
     // Whether every task has a response that, after its hold, is in time.

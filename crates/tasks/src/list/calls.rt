@@ -1,6 +1,6 @@
-// Adding tasks, closing a list, and reading it.
-ghost use Rattle.std.specs.Prelude.{◌≡◌, [], length, slice_get, Some, None, MatchResult};
-ghost use Rattle.tasks.specs.List.{listed, opened, row_said, limit_fault, Adds};
+// Whether a row keeps the limits; adding tasks, closing a list, and reading it.
+ghost use Rattle.std.specs.Prelude.{◌≡◌, [], ◌∷◌, length, slice_get, Some, None, MatchResult};
+ghost use Rattle.tasks.specs.List.{row, new_row, listed, opened, row_said, limit_fault, Adds};
 ghost use Rattle.tasks.specs.Task.{preference_of};
 
 use super::{OpenList, TaskList};
@@ -16,7 +16,9 @@ pub const MAX_PERIOD: u16 = 60_000;
 
 impl Task {
     // What stands in the places of a list that no task has taken.
-    fn filler() -> Task {
+    fn filler() -> Task
+        ensures { row result ≡ new_row (0 ∷ []) 0 1 1 }
+    {
         Task {
             name: Name::filler(),
             preference: Preference::Asap,

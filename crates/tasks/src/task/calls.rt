@@ -1,6 +1,6 @@
-// Making and reading names, the number that stands for a preference, and whether a row keeps the limits.
+// Making and reading names, and the number that stands for a preference.
 ghost use Rattle.tasks.specs.Task.{name_of, name_fits, preference_of, preference_number};
-ghost use Rattle.std.specs.Prelude.{◌≡◌, true, false, Some, None, MatchOption, MatchResult};
+ghost use Rattle.std.specs.Prelude.{◌≡◌, [], ◌∷◌, true, false, Some, None, MatchOption, MatchResult};
 
 use super::{Name, Preference, UnknownPreference};
 use fixed::fixed_vec::FixedVec;
@@ -36,8 +36,10 @@ impl From<Preference> for u8 {
 }
 
 impl Name {
-    // A name for places that no task has taken.
-    pub(crate) fn filler() -> Name {
+    // The name of one zero byte, for places that no task has taken.
+    pub(crate) fn filler() -> Name
+        ensures { name_of result ≡ 0 ∷ [] }
+    {
         Name {
             bytes: FixedVec::first_of([0u8; MAX_NAME], 1),
         }

@@ -19,6 +19,6 @@ returns c =
     let p = c.args.self.now in
     let found = is_listed (listed c.list.result.now) c.args.task c.in-Some.asked filler c.in-Some.ensures in
     let here : c.args.task < size p = omega (arith, found.0, ap (λ l. length (listed l)) c.list.ensures) in
-    in_time_is p c.args.task here c.is_some_and.result c.from-deadline.result c.hold.result c.response.result c.zip-run.result c.hold.ensures c.response.ensures
-    (c.from-deadline.ensures ∙ ap (λ t. deadline (list_of p) t) (found.1 ∙ ap (λ l. task_at l c.args.task) c.list.ensures)) c.zip-run.ensures
-    (match_weaker _ _ _ c.zip-run.result (λ x e. search (rules, tests)) c.is_some_and.ensures)
+    in_time_is p c.args.task here c.is_some_and.result c.from-deadline.result c.hold.result c.response.result c.zip-parts.result c.hold.ensures c.response.ensures
+    (c.from-deadline.ensures ∙ ap (λ t. deadline (list_of p) t) (found.1 ∙ ap (λ l. task_at l c.args.task) c.list.ensures)) c.zip-parts.ensures
+    (match_weaker _ _ _ c.zip-parts.result (λ x e. search (rules, tests)) c.is_some_and.ensures)
