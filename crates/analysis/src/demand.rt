@@ -3,7 +3,6 @@ ghost use Rattle.std.specs.Prelude.{◌≡◌, ◌*◌, ◌^◌, ◌<◌};
 ghost use Rattle.analysis.specs.Demand.{ceil, demand as demand_of};
 
 use crate::question::Question;
-use tasks::set::has;
 use tasks::task::Task;
 
 // What the jobs of a task that begin in so many ticks ask for.
@@ -21,7 +20,7 @@ impl Question<'_> {
     {
         let mut sum = u64::from(self.asked().cost);
         for (number, other) in self.list.tasks().iter().enumerate() {
-            if has(self.set, number) {
+            if (self.set >> number) % 2 == 1 {
                 sum += jobs_charge(*other, ticks);
             }
         }

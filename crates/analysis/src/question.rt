@@ -5,6 +5,8 @@ use tasks::list::TaskList;
 
 pub mod calls;
 
+pub use calls::well_put;
+
 // A question that is well put: the task and all of the set are listed, and the set lacks the task.
 #[derive(Clone, Copy)]
 pub struct Question<'a> {

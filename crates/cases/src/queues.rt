@@ -1,9 +1,31 @@
 // Queues over lent memory.
+ghost use Rattle.std.proofs.Common.{rules};
+ghost use Rattle.std.specs.Cmp.Rules.{comparing};
+ghost use Rattle.std.specs.Ordering.{flip_args};
+
 use crate::says::{is_refused, refusal};
 use queue::entries::{Held, Ready};
+use queue::order::Ordered;
 use queue::queue::Queue;
+use std::cmp::Ordering;
 use std::test::Fail;
 use tasks::fault::Layer;
+
+// A rank, which compares as its number does and is queued the greatest first.
+#[derive(Clone, Copy, PartialEq, Eq, PartialOrd, Ord, Debug)]
+struct Rank(u8);
+
+impl Ordered for Rank {
+    ghost order = { flip_args ⟦<Rank as Ord>⟧.cmp };
+
+    fn compare(&self, other: &Rank) -> Ordering {
+        other.cmp(self)
+    }
+
+    ghost total = { Prim.search (comparing, rules) };
+
+    ghost same = { Prim.search rules };
+}
 
 fn held(until: u32, task: usize) -> Held {
     Held { until, task }
@@ -46,6 +68,25 @@ fn ready_jobs(rt: HostRuntime) -> Result<(), Fail> {
     assert_eq!(rt; places[0], ready(9, 6));
     assert_eq!(rt; places[1], ready(2, 5));
     assert_eq!(rt; places[2], ready(2, 5));
+    Ok(())
+}
+
+// Elements stand by the order of their trait, also where they compare by another one: the greatest rank first.
+#[test]
+fn ranks_by_another_order(rt: HostRuntime) -> Result<(), Fail> {
+    let mut places = [Rank(0); 4];
+    let mut queue = Queue::new(&mut places);
+    queue.put(Rank(2))?;
+    queue.put(Rank(9))?;
+    queue.put(Rank(5))?;
+    queue.put(Rank(9))?;
+    assert!(rt; Rank(2) < Rank(9));
+    assert!(rt; queue.take_out(Rank(5)));
+    assert!(rt; !queue.take_out(Rank(5)));
+    assert_eq!(rt; queue.take_front(), Some(Rank(9)));
+    assert_eq!(rt; queue.take_front(), Some(Rank(9)));
+    assert_eq!(rt; queue.take_front(), Some(Rank(2)));
+    assert_eq!(rt; queue.take_front(), None);
     Ok(())
 }
 

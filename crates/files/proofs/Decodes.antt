@@ -1,9 +1,9 @@
 -- Reading a file record by record gives what the definition says: what is left of the run gives the whole run. Assumes nothing.
-use Rattle.std.proofs.Common.{◌≡◌, ℕ, zero, suc, ◌+◌, ◌-◌, ◌<◌, ◌≤◌, true, false, List, [], length, drop, Some, None, Ok, Err, Option, Result, sym, refl, ap, ◌∙◌, arith, length-drop}
+use Rattle.std.proofs.Common.{◌≡◌, ℕ, zero, suc, ◌+◌, ◌-◌, ◌<◌, ◌≤◌, Bool, true, false, cond, ◌||◌, List, [], length, drop, Some, None, Ok, Err, Option, Result, sym, refl, ap, ◌∙◌, arith, length-drop}
 use Rattle.std.proofs.lemmas.Option.{MatchOption-at_some}
-use Rattle.std.proofs.lemmas.Bool.{lt-ltb, le-ltb, cond-true, cond-false}
+use Rattle.std.proofs.lemmas.Bool.{lt-ltb, le-ltb, cond-true, cond-false, true≢false}
 use Rattle.files.specs.Decoding.{Rules, closes, end_fault, takes, goes_on, decoded_from, decoded_by, Ends}
-use Rattle.files.specs.Format.{Said, end, view, is_end, head_fault, size, first}
+use Rattle.files.specs.Format.{Said, task, note, end, plan, view, is_end, head_fault, size, first}
 use Rattle.files.specs.Reading.{left, Begins, Shown, Nexts}
 use Rattle.files.specs.declared.fault.ByteFault.{ByteFault}
 use Rattle.files.specs.declared.fault.ByteFault.TheVariants.{TooLong, CutOff}
@@ -144,3 +144,67 @@ module _ {R F : Type 0} (g : Rules R F) where
   pub too_long : (bs : List ℕ) → 8192 < length bs → decoded_by g bs ≡ Err (Bytes (TooLong (length bs)))
   unfolding decoded_by
   too_long bs h = cond-true _ _ _ (lt-ltb 8192 (length bs) h)
+
+  -- what is left to decode: nothing once the end record was read
+  abbrev pub left_over : Bool → ℕ → List ℕ → ℕ → List R → Result (List R) (FileFault F)
+  left_over true n bs at rs = Ok rs
+  left_over false n bs at rs = decoded_from g n bs at rs
+
+  -- the run of a reader over the file bs, up to its end record or past it, with the rows so far; past it no row is missing
+  pub record Gone (bs : List ℕ) (r : Reader) (rs : List R) : Type 0 where
+    pub file : r.bytes.now ≡ bs
+    pub kind : r.kind ≡ g.kind
+    pub full : r.ended ≡ true → g.lacks rs ≡ false
+    pub turns : ℕ
+    pub enough : length bs - r.at ≤ turns
+    pub whole : left_over r.ended turns bs r.at rs ≡ decoded_by g bs
+
+  before_end : (bs : List ℕ) (r : Reader) (rs : List R) → Gone bs r rs → r.ended ≡ false → Going bs r rs
+  before_end bs r rs w e = record {
+    file = w.file;
+    kind = w.kind;
+    unended = e;
+    turns = w.turns;
+    enough = w.enough;
+    whole = ap (λ b. left_over b w.turns bs r.at rs) (sym e) ∙ w.whole;
+  }
+
+  goes_on_open : (bs : List ℕ) (r : Reader) (rs : List R) → Going bs r rs → Gone bs r rs
+  goes_on_open bs r rs w = record {
+    file = w.file;
+    kind = w.kind;
+    full = λ e. absurd (true≢false (sym e ∙ w.unended));
+    turns = w.turns;
+    enough = w.enough;
+    whole = ap (λ b. left_over b w.turns bs r.at rs) w.unended ∙ w.whole;
+  }
+
+  -- an end record is taken only after the last row, and leaves the rows
+  none_lacks : (lacks wrong : Bool) (f : ByteFault) (o : Option ByteFault) (rs new : List R) → closes {F = F} (cond (lacks || wrong) (Some f) o) rs ≡ Ok new → lacks ≡ false
+  none_lacks true wrong f o rs new e = cc
+  none_lacks false wrong f o rs new e = refl
+
+  rows_stay : (o : Option ByteFault) (rs new : List R) → closes {F = F} o rs ≡ Ok new → rs ≡ new
+  rows_stay None rs new e = cc
+  rows_stay (Some f) rs new e = cc
+
+  -- one record that is taken, the end record too
+  pub turn_goes_on : (bs : List ℕ) (r new : Reader) (rs rs' : List R) (at : ℕ) (s : Said) → Gone bs r rs → Shown r new at s → (new.bytes.now ≡ r.bytes.now) × (new.kind ≡ r.kind) → takes g (length bs) at rs s ≡ Ok rs' → Gone bs new rs'
+  turn_goes_on bs r new rs rs' at (end k) w h same taken =
+      let open_now = before_end bs r rs w h.unended in
+      let inside = place_within bs r new rs at (end k) open_now h in
+      let stay = rows_stay _ rs rs' taken in
+      record {
+        file = same.0 ∙ w.file;
+        kind = same.1 ∙ w.kind;
+        full = λ e. ap g.lacks (sym stay) ∙ none_lacks (g.lacks rs) _ _ _ rs rs' taken;
+        turns = w.turns;
+        enough = omega (arith, w.enough);
+        whole = (λ i. left_over (h.ends i) w.turns bs new.at rs') ∙ sym (ended bs r new rs at k open_now h ∙ taken);
+      }
+  turn_goes_on bs r new rs rs' at (task p c q n) w h same taken =
+      goes_on_open bs new rs' (going_on bs r new rs rs' at (task p c q n) (before_end bs r rs w h.unended) h same refl taken)
+  turn_goes_on bs r new rs rs' at (note b) w h same taken =
+      goes_on_open bs new rs' (going_on bs r new rs rs' at (note b) (before_end bs r rs w h.unended) h same refl taken)
+  turn_goes_on bs r new rs rs' at (plan t r1 h1) w h same taken =
+      goes_on_open bs new rs' (going_on bs r new rs rs' at (plan t r1 h1) (before_end bs r rs w h.unended) h same refl taken)

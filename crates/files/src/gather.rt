@@ -1,8 +1,8 @@
 // Gathering the rows that a file says, into an open list or an open plan.
-ghost use Rattle.std.specs.Prelude.{◌≡◌, ◌≤◌, false, [], List, length, Some, None, Err, MatchResult};
+ghost use Rattle.std.specs.Prelude.{◌≡◌, ◌<◌, ◌≤◌, false, [], List, length, Some, None, Err, MatchResult};
 ghost use Rattle.files.specs.Decoding.{Rules, Says, Ends, end_fault, decoded_by};
 ghost use Rattle.files.specs.Format.{view};
-ghost use Rattle.files.specs.declared.fault.ByteFault.TheVariants.{WrongCount};
+ghost use Rattle.files.specs.declared.fault.ByteFault.TheVariants.{TooLong, WrongCount};
 
 use crate::fault::{ByteFault, FileFault};
 use crate::list_file::MAX_FILE;
@@ -78,19 +78,27 @@ impl EndRecord {
     }
 }
 
+// Checks that a file has no more bytes than it may, before any memory is made ready for its rows.
+pub(crate) fn check_size(bytes: &[u8]) -> Result<(), ByteFault>
+    ensures { MatchResult result (λ _. length bytes.now ≤ 8192) (λ f. (8192 < length bytes.now) × (f ≡ TooLong (length bytes.now))) }
+{
+    let size = bytes.len();
+    if size > MAX_FILE {
+        return Err(ByteFault::TooLong(size as u64));
+    }
+    Ok(())
+}
+
 // Gathers the rows that a file says into what has none yet, up to the end record, and answers that.
 pub(crate) fn gather_rows<G: Gather>(
     bytes: &[u8],
     into: &mut G,
 ) -> Result<EndRecord, FileFault<G::Fault>>
-    requires { G.rows into.old ≡ [] }
+    requires none { G.rows into.old ≡ [] }
+    requires short { length bytes.now ≤ 8192 }
     ensures ends { MatchResult result (λ e. (e.at ≤ length bytes.now) × Ends (G.rules into.old) bytes.now (G.rows into.new) e.at e.count) (λ f. decoded_by (G.rules into.old) bytes.now ≡ Err f) }
     ensures same { G.same_but_rows into.old into.new }
 {
-    let size = bytes.len();
-    if size > MAX_FILE {
-        return Err(FileFault::Bytes(ByteFault::TooLong(size as u64)));
-    }
     let mut reader = Reader::new(bytes, into.kind());
     while let Some((at, record)) = reader.next()? {
         match record {

@@ -6,7 +6,7 @@ ghost use Rattle.files.specs.RowLaws.{task_short};
 ghost use Rattle.tasks.specs.List.{Row as RowOf, row, rows as rows_of, listed, opened};
 
 use crate::fault::{ByteFault, FileFault, ListFault};
-use crate::gather::{Gather, gather_rows};
+use crate::gather::{Gather, check_size, gather_rows};
 use crate::lay::{Lay, push_record, write_rows};
 use crate::record::{FileKind, Kind, Record};
 use crate::text::Text;
@@ -61,9 +61,11 @@ impl Lay for Task {
 }
 
 // The closed list that a list file says.
+#[tactic(auto, using(crate::proofs::Decodes::too_long))]
 fn list_in(bytes: &[u8]) -> Result<TaskList, ListFault>
     ensures { MatchResult result (λ l. decoded bytes.now ≡ Ok (rows_of (listed l))) (λ f. decoded bytes.now ≡ Err f) }
 {
+    check_size(bytes)?;
     let mut open = OpenList::new();
     let end = gather_rows(bytes, &mut open)?;
     let list = open.close();

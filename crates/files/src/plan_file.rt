@@ -7,7 +7,7 @@ ghost use Rattle.planning.specs.Plans.{open_rows, list_of, rows as rows_of};
 ghost use Rattle.planning.specs.declared.plan.Row.{Row as PlanRow};
 
 use crate::fault::{ByteFault, FileFault, PlanFileFault};
-use crate::gather::{Gather, gather_rows};
+use crate::gather::{Gather, check_size, gather_rows};
 use crate::lay::{Lay, push_record, write_rows};
 use crate::record::{FileKind, Kind, Record};
 use crate::text::Text;
@@ -57,9 +57,11 @@ impl Lay for Row {
 }
 
 // The plan that a plan file says for a list.
+#[tactic(auto, using(crate::proofs::Decodes::too_long))]
 fn plan_in(bytes: &[u8], list: &TaskList) -> Result<Plan, PlanFileFault>
     ensures { MatchResult result (λ p. (decoded_plan list.now bytes.now ≡ Ok (rows_of p)) × (list_of p ≡ list.now)) (λ f. decoded_plan list.now bytes.now ≡ Err f) }
 {
+    check_size(bytes)?;
     let mut open = OpenPlan::begin(list);
     let end = gather_rows(bytes, &mut open)?;
     let plan = open.close().ok_or(end.wrong_count())?;

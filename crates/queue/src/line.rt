@@ -9,10 +9,13 @@ use crate::order::Ordered;
 // Puts the new element behind those of the elements from the front on that are at most it. The others move up by one place.
 pub(crate) fn put_in<T: Ordered>(places: &mut [T], count: usize, new: T)
     requires { count < length places.old }
-    ensures { places.new ≡ laid (insertion T.cmp new (take count places.old)) places.old }
+    ensures { places.new ≡ laid (insertion T.order new (take count places.old)) places.old }
 {
     let held = &places[..count];
-    let at = held.iter().position(|e| *e > new).unwrap_or(count);
+    let at = held
+        .iter()
+        .position(|e| e.compare(&new).is_gt())
+        .unwrap_or(count);
     places.copy_within(at..count, at + 1);
     places[at] = new;
 }
@@ -20,11 +23,11 @@ pub(crate) fn put_in<T: Ordered>(places: &mut [T], count: usize, new: T)
 // Takes the first element that is equal to this one out, and says whether there was one. Those behind it move down over it.
 pub(crate) fn take_from<T: Ordered>(places: &mut [T], count: usize, wanted: T) -> bool
     requires { count ≤ length places.old }
-    ensures found { result ≡ holds T.cmp wanted (take count places.old) }
-    ensures after { places.new ≡ laid (drop_one T.cmp wanted (take count places.old)) places.old }
+    ensures found { result ≡ holds T.order wanted (take count places.old) }
+    ensures after { places.new ≡ laid (drop_one T.order wanted (take count places.old)) places.old }
 {
     let held = &places[..count];
-    let Some(at) = held.iter().position(|e| *e == wanted) else {
+    let Some(at) = held.iter().position(|e| e.compare(&wanted).is_eq()) else {
         return false;
     };
     places.copy_within(at + 1..count, at);

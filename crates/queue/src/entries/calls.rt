@@ -10,18 +10,28 @@ use super::{Held, Ready};
 use crate::order::Ordered;
 use std::cmp::Ordering;
 
-// Held jobs stand by the tick until which they are held, and then by their task.
+// Held jobs are queued as they compare: by the tick until which they are held, and then by their task.
 fn held_order()
-    ensures { (x y : Held) → is_le (⟦<Held as Ord>⟧.cmp x y) ≡ held_le x y }
+    ensures queued { (x y : Held) → is_le (⟦<Held as Ordered>⟧.order x y) ≡ held_le x y }
+    ensures compared { (x y : Held) → is_le (⟦<Held as Ord>⟧.cmp x y) ≡ held_le x y }
 {}
 
 impl Ordered for Held {
+    ghost order = { ⟦<Held as Ord>⟧.cmp };
+
+    fn compare(&self, other: &Held) -> Ordering {
+        self.cmp(other)
+    }
+
+    ghost total = { Prim.search (comparing, rules) };
+
     ghost same = { Prim.search rules };
 }
 
-// Ready jobs stand by their rank, the greatest first, and then by their task.
+// Ready jobs are queued as they compare: by their rank, the greatest first, and then by their task.
 fn ready_order()
-    ensures { (x y : Ready) → is_le (⟦<Ready as Ord>⟧.cmp x y) ≡ ready_le x y }
+    ensures queued { (x y : Ready) → is_le (⟦<Ready as Ordered>⟧.order x y) ≡ ready_le x y }
+    ensures compared { (x y : Ready) → is_le (⟦<Ready as Ord>⟧.cmp x y) ≡ ready_le x y }
 {}
 
 impl Ord for Ready {
@@ -34,7 +44,11 @@ impl Ord for Ready {
     ghost matches_eq = { Prim.search (comparing, rules) };
 
     fn cmp(&self, other: &Ready) -> Ordering {
-        other.rank.cmp(&self.rank).then(self.task.cmp(&other.task))
+        if self.rank == other.rank {
+            self.task.cmp(&other.task)
+        } else {
+            other.rank.cmp(&self.rank)
+        }
     }
 }
 
@@ -49,5 +63,13 @@ impl PartialOrd for Ready {
 }
 
 impl Ordered for Ready {
+    ghost order = { ⟦<Ready as Ord>⟧.cmp };
+
+    fn compare(&self, other: &Ready) -> Ordering {
+        self.cmp(other)
+    }
+
+    ghost total = { Prim.search (comparing, rules) };
+
     ghost same = { Prim.search rules };
 }

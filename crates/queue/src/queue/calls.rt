@@ -47,8 +47,8 @@ impl<'a, T: Ordered> Queue<'a, T> {
 
     // Puts an element in behind those that are at most it. Refused exactly if the memory is full.
     pub fn put(&mut self, new: T) -> Result<(), QueueFault>
-        ensures puts { Puts T.cmp new self.old self.new result }
-        ensures stays_sorted { IsSorted T.cmp (held self.old) → IsSorted T.cmp (held self.new) }
+        ensures puts { Puts T.order new self.old self.new result }
+        ensures stays_sorted { IsSorted T.order (held self.old) → IsSorted T.order (held self.new) }
         ensures one_more { is_ok result ≡ true → IsPermutation (new ∷ held self.old) (held self.new) }
     {
         let count = self.len();
@@ -65,7 +65,7 @@ impl<'a, T: Ordered> Queue<'a, T> {
     pub fn take_front(&mut self) -> Option<T>
         ensures first { result ≡ slice_get (held self.old) 0 }
         ensures rest { Takes (drop 1 (held self.old)) self.old self.new }
-        ensures stays_sorted { IsSorted T.cmp (held self.old) → IsSorted T.cmp (held self.new) }
+        ensures stays_sorted { IsSorted T.order (held self.old) → IsSorted T.order (held self.new) }
     {
         let count = self.len();
         self.count = count;
@@ -77,9 +77,9 @@ impl<'a, T: Ordered> Queue<'a, T> {
 
     // Takes the first element that is equal to this one out, and says whether there was one.
     pub fn take_out(&mut self, wanted: T) -> bool
-        ensures found { result ≡ holds T.cmp wanted (held self.old) }
-        ensures rest { Takes (drop_one T.cmp wanted (held self.old)) self.old self.new }
-        ensures stays_sorted { IsSorted T.cmp (held self.old) → IsSorted T.cmp (held self.new) }
+        ensures found { result ≡ holds T.order wanted (held self.old) }
+        ensures rest { Takes (drop_one T.order wanted (held self.old)) self.old self.new }
+        ensures stays_sorted { IsSorted T.order (held self.old) → IsSorted T.order (held self.new) }
         ensures one_fewer { result ≡ true → IsPermutation (held self.old) (wanted ∷ held self.new) }
     {
         let count = self.len();

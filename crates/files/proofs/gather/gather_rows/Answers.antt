@@ -4,7 +4,7 @@ use Rattle.files.specs.Decoding.{takes}
 use Rattle.files.specs.Format.{is_end, view}
 use Rattle.files.specs.Reading.{Shown}
 use Rattle.files.specs.declared.record.Record.{Record}
-use Rattle.files.proofs.Decodes.{starts, going_on, place_within, head_refused, record_refused, ended, too_long, shown_is, not_end, adds_only}
+use Rattle.files.proofs.Decodes.{starts, going_on, place_within, head_refused, record_refused, ended, shown_is, not_end, adds_only}
 use Rattle.files.proofs.gather.gather_rows.Goals as goal
 use Rattle.files.proofs.gather.gather_rows.Goals.{In-Some, In_default-record}
 
@@ -12,13 +12,10 @@ use Rattle.files.proofs.gather.gather_rows.Goals.{In-Some, In_default-record}
 shown : (g : _) (c : goal.In-Some g) → Shown c.loop-at.reader c.next.new.self c.in-Some.at (view c.in-Some.record)
 shown g c = shown_is c.loop-at.reader c.next.new.self c.in_ok-at.field-0 c.in-Some.at c.in-Some.record c.in-Some.is c.in_ok-at.ensures
 
-pub returns-then-size-gt-MAX_FILE-clause-ends : goal.returns-then-size-gt-MAX_FILE-clause-ends
-returns-then-size-gt-MAX_FILE-clause-ends g c = too_long (g.G.Gather.rules c.args.into.now) c.args.bytes.now (omega arith)
-
 pub loop-at-init : goal.loop-at-init
 loop-at-init g c =
     let r = g.G.Gather.rules c.args.into.now in
-    (starts r c.args.bytes.now c.new-reader.result c.kind.result _ (omega arith) c.new-reader.ensures c.kind.ensures c.requires, g.met.G.Gather.same c.args.into.now)
+    (starts r c.args.bytes.now c.new-reader.result c.kind.result _ c.requires.short c.new-reader.ensures c.kind.ensures c.requires.none, g.met.G.Gather.same c.args.into.now)
 
 pub returns-in_err-at-clause-ends : goal.returns-in_err-at-clause-ends
 returns-in_err-at-clause-ends g c =

@@ -12,7 +12,7 @@ pub returns : goal.returns
 returns g c =
     let xs = c.args.places.now in
     let es = take c.args.count xs in
-    let greater = λ (e : g.row.T.Denot). is_gt (g.T.Ord.cmp e c.args.new) in
+    let greater = λ (e : g.row.T.Denot). is_gt (g.T.Ordered.order e c.args.new) in
     let long : length es ≡ c.args.count = length-take-le c.args.count xs (omega arith) in
     let found : c.position.result ≡ position greater es = position_from_yields_List greater _ _ c.position.result c.position.ensures.ran (YieldsList-from_slice es c.iter.ensures.rest) (λ x b q k. search (rules, tests)) in
     let at : c.unwrap_or-at.result ≡ position_or_len greater es = c.unwrap_or-at.ensures ∙ ap (λ o. unwrap_or o c.args.count) found ∙ or_end greater es c.args.count long in

@@ -12,7 +12,7 @@ pub returns-in_default : goal.returns-in_default
 returns-in_default g c =
     let xs = c.args.places.now in
     let es = take c.args.count xs in
-    let equal = λ (e : g.row.T.Denot). is_eq (g.T.Ord.cmp e c.args.wanted) in
+    let equal = λ (e : g.row.T.Denot). is_eq (g.T.Ordered.order e c.args.wanted) in
     let long : length es ≡ c.args.count = length-take-le c.args.count xs c.requires in
     let found : c.position.result ≡ position equal es = position_from_yields_List equal _ _ c.position.result c.position.ensures.ran (YieldsList-from_slice es c.iter.ensures.rest) (λ x b q k. search (rules, tests)) in
     let none = found_none equal es (sym c.in_default.is ∙ found) in
@@ -25,7 +25,7 @@ pub returns : goal.returns
 returns g c =
     let xs = c.args.places.now in
     let es = take c.args.count xs in
-    let equal = λ (e : g.row.T.Denot). is_eq (g.T.Ord.cmp e c.args.wanted) in
+    let equal = λ (e : g.row.T.Denot). is_eq (g.T.Ordered.order e c.args.wanted) in
     let long : length es ≡ c.args.count = length-take-le c.args.count xs c.requires in
     let found : c.position.result ≡ position equal es = position_from_yields_List equal _ _ c.position.result c.position.ensures.ran (YieldsList-from_slice es c.iter.ensures.rest) (λ x b q k. search (rules, tests)) in
     let at = found_at equal es c.in-Some.at (sym c.in-Some.is ∙ found) in

@@ -1,13 +1,10 @@
-use Rattle.std.proofs.Common.{◌≡◌, ℕ, ◌+◌, ◌*◌, ◌/◌, ◌%◌, ◌^◌, div-one, one-add, drop, sym, ap, ◌∙◌, arith}
+use Rattle.std.proofs.Common.{◌≡◌, ℕ, ◌+◌, ◌*◌, ◌/◌, ◌%◌, ◌^◌, div-one, drop, ap, ◌∙◌, arith}
 use Rattle.std.proofs.lemmas.Nat.{shr-shr}
-use Rattle.std.proofs.lemmas.Bool.Decides.{nat_tests}
 use Rattle.tasks.specs.List.{task_at}
-use Rattle.tasks.specs.Set.{bit}
-use Rattle.tasks.proofs.SetLaws.{bit_is}
 use Rattle.analysis.specs.Demand.{charge, ceil, load, demand}
 use Rattle.analysis.specs.DemandLaws.{load_more, load_all}
 use Rattle.analysis.proofs.question.Question.demand.Goals as goal
-use Rattle.analysis.proofs.question.Question.demand.Goals.{then-has, else-has}
+use Rattle.analysis.proofs.question.Question.demand.Goals.{then-self-number-eq1, else-self-number-eq1}
 
 pub loop-number-init : goal.loop-number-init
 unfolding demand
@@ -28,13 +25,10 @@ loop-number-preserved c =
     let more = load_more l c.tasks-other-items.result.now k (s / 2 ^ k) c.args.ticks x c.loop-number-test.true c.other-item.is in
     let rest : s / 2 ^ k / 2 ≡ s / 2 ^ (k + 1) = shr-shr s k 1 in
     let next = ap (λ r. load l (drop (k + 1) c.tasks-other-items.result.now) r c.args.ticks) rest in
-    elim c.if-has.branch [
-      | then-has w ↦
-          let one : s / 2 ^ k % 2 ≡ 1 = sym (bit_is s k) ∙ grind (arith, nat_tests, w.if-has.true, c.has.ensures) in
-          (omega (arith, w.sum-is, w.jobs_charge-sum.ensures, more, next, ap (λ b. b * jobs) one), omega (arith, w.sum-is, w.jobs_charge-sum.ensures.small))
-      | else-has w ↦
-          let other : bit s k ≡ 1 → ⊥ = grind (arith, nat_tests, w.if-has.false, c.has.ensures) in
-          let none : s / 2 ^ k % 2 ≡ 0 = omega (arith, sym (bit_is s k), other) in
+    elim c.if-self-number-eq1.branch [
+      | then-self-number-eq1 w ↦ (omega (arith, w.sum-is, w.jobs_charge-sum.ensures, more, next, ap (λ b. b * jobs) w.if-self-number-eq1.true), omega (arith, w.sum-is, w.jobs_charge-sum.ensures.small))
+      | else-self-number-eq1 w ↦
+          let none : s / 2 ^ k % 2 ≡ 0 = omega (arith, w.if-self-number-eq1.false) in
           (omega (arith, w.sum-is, more, next, ap (λ b. b * jobs) none), omega (arith, w.sum-is))
     ]
 

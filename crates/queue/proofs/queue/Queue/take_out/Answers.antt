@@ -11,7 +11,7 @@ use Rattle.queue.proofs.queue.Queue.take_out.Goals as goal
 pub returns : goal.returns
 returns g c =
     let q = c.args.self.now in
-    let cmp = g.T.Ord.cmp in
+    let cmp = g.T.Ordered.order in
     let equal = λ (e : g.row.T.Denot). is_eq (cmp e c.args.wanted) in
     let same : take c.len-count.result (memory q) ≡ held q = grind (arith, common_steps) in
     let found = c.take_from-found.ensures.found ∙ ap (holds cmp c.args.wanted) same in
@@ -25,6 +25,6 @@ returns g c =
     record {
       found = found;
       rest = takes;
-      stays_sorted = λ up. subst (IsSorted cmp) (sym now) (removal_sorted g.met.T.Ord.total (held q) (position_or_len equal (held q)) up);
+      stays_sorted = λ up. subst (IsSorted cmp) (sym now) (removal_sorted g.met.T.Ordered.total (held q) (position_or_len equal (held q)) up);
       one_fewer = λ e. subst (λ es. IsPermutation (held q) (c.args.wanted ∷ es)) (sym now) (removal_shuffles g.met.T.Ordered.same c.args.wanted (held q) (sym found ∙ e));
     }
