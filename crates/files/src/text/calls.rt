@@ -28,13 +28,18 @@ impl Text {
     }
 
     // Puts the number behind what the text has, in decimal digits, by `itoa`: `write!` does not promise that it succeeds where there is
-    // room.
+    // room. One digit, which most numbers of a report have, is put without it, since that is faster.
+    #[tactic(auto, using(std::proofs::lemmas::Fmt::decimal_digit))]
     pub(crate) fn push_number(&mut self, n: u64)
         requires { HasRoom self.old (length (decimal n)) }
         ensures bytes { written self.new ≡ written self.old ++ decimal n }
         ensures longer { length (written self.new) ≡ length (written self.old) + length (decimal n) }
     {
-        self.push(Buffer::new().format(n).as_bytes());
+        if n < 10 {
+            self.push(&[48 + n as u8]);
+        } else {
+            self.push(Buffer::new().format(n).as_bytes());
+        }
     }
 
     // Writes the text into the buffer and answers its length. Refused, with nothing written, exactly if the buffer is shorter.
